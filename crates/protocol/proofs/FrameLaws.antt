@@ -1,0 +1,340 @@
+-- Frames and datagrams: reading what was written gives it back, and only what was written is read.
+-- Assumes nothing.
+use Prim.Native.Nat.{ℕ, suc, _+_, _-_, _<_, _≤_}
+use native.Mathlib.Omega.{arith}
+use mathlib.Core.Path.{_≡_, refl, sym, ap, ap₂, _∙_}
+use mathlib.Core.Bool.{Bool, true, false, cond, _&&_, false≢true, and-eq-true-iff}
+use mathlib.Core.List.{List, [], _∷_, _++_}
+use mathlib.Core.Option.{Option, none, some, Option·none-ne-some, Option·some-injective}
+use borrow.Author.Tests.{eqb-true, eqb-false, ltb-true, ltb-false, eq-eqb, ne-eqb, le-ltb, le-leb}
+use native.Mathlib.Nat.{not-suc-le-zero, le-of-suc-le-suc, le-refl}
+use lib.ListN.{length, getD, take, drop, length-append}
+use lib.Seq.{take-at, getD-at, take-suc, take-length}
+use lib.Dec.{eqb, ltb, leb}
+use Rattle.protocol.specs.Numbers.{done, noPreamble, tooShort, tooLong, badChecksum, otherAddress, maxData, maxContent, DLE, STX, ETX}
+use Rattle.protocol.specs.Bytes.{every}
+use Rattle.protocol.specs.Frame.{Received, double, undouble, push, atEnd, checksum, contentOf, addressIn, dataIn, checksumIn, received, refused, judge, judgeWhole, readFrame, frame, wrap, Sized, ifSized, datagram, readDatagram, fourZeros}
+
+double-nil : double [] ≡ []
+unfolding double
+double-nil = refl
+
+-- One byte more, doubled or not.
+pub double-dle : (b : ℕ) (bs : List ℕ) → eqb b DLE ≡ true → double (b ∷ bs) ≡ DLE ∷ DLE ∷ double bs
+unfolding double
+double-dle b bs e = rw e
+
+pub double-lone : (b : ℕ) (bs : List ℕ) → eqb b DLE ≡ false → double (b ∷ bs) ≡ b ∷ double bs
+unfolding double
+double-lone b bs e = rw e
+
+-- One byte read: alone, the first of a pair, and the second of one.
+undouble-lone : (b : ℕ) (bs : List ℕ) → eqb b DLE ≡ false → undouble false (b ∷ bs) ≡ push b (undouble false bs)
+unfolding undouble
+undouble-lone b bs e = rw (e, undouble)
+
+undouble-dle : (b : ℕ) (bs : List ℕ) → eqb b DLE ≡ true → undouble false (b ∷ bs) ≡ undouble true bs
+unfolding undouble
+undouble-dle b bs e = rw (e, undouble)
+
+undouble-pair : (b : ℕ) (bs : List ℕ) → eqb b DLE ≡ true → undouble true (b ∷ bs) ≡ push DLE (undouble false bs)
+unfolding undouble
+undouble-pair b bs e = rw (e, undouble)
+
+undouble-end : (b : ℕ) (bs : List ℕ) → eqb b DLE ≡ false → eqb b ETX ≡ true → undouble true (b ∷ bs) ≡ atEnd bs
+unfolding undouble
+undouble-end b bs e h = rw (e, h, undouble)
+
+undouble-bad : (b : ℕ) (bs : List ℕ) → eqb b DLE ≡ false → eqb b ETX ≡ false → undouble true (b ∷ bs) ≡ none
+unfolding undouble
+undouble-bad b bs e h = rw (e, h, undouble)
+
+-- What ends with 10 03 reads as what was doubled before it.
+pub undouble-double : (c : List ℕ) → undouble false (double c ++ DLE ∷ ETX ∷ []) ≡ some c
+unfolding undouble double
+undouble-double [] = refl
+undouble-double (b ∷ bs) = go (undouble-double bs) (eqb b DLE) refl
+  where
+    go : undouble false (double bs ++ DLE ∷ ETX ∷ []) ≡ some bs → (t : Bool) → eqb b DLE ≡ t → undouble false (double (b ∷ bs) ++ DLE ∷ ETX ∷ []) ≡ some (b ∷ bs)
+    go ih true e = rw (double-dle b bs e) (ap (push DLE) ih ∙ rw (eqb-true b DLE e))
+    go ih false e = rw (double-lone b bs e) (undouble-lone b (double bs ++ DLE ∷ ETX ∷ []) e ∙ ap (push b) ih)
+
+push-some : (b : ℕ) (o : Option (List ℕ)) (c : List ℕ) → push b o ≡ some c → (d : List ℕ) × (o ≡ some d) × (c ≡ b ∷ d)
+push-some b none c h = absurd (Option·none-ne-some _ h)
+push-some b (some d) c h = (d, refl, sym (Option·some-injective _ _ h))
+
+atEnd-some : (bs c : List ℕ) → atEnd bs ≡ some c → (bs ≡ []) × (c ≡ [])
+atEnd-some [] c h = (refl, sym (Option·some-injective _ _ h))
+atEnd-some (b ∷ bs) c h = absurd (Option·none-ne-some _ h)
+
+-- A 10h that waits stands in front of the bytes still to be read.
+abbrev waiting : Bool → List ℕ → List ℕ
+waiting true bs = DLE ∷ bs
+waiting false bs = bs
+
+-- The bytes of a content, as they stand before the end of a frame.
+abbrev ended : List ℕ → List ℕ
+ended c = double c ++ DLE ∷ ETX ∷ []
+
+-- What reads as a content is that content doubled, and 10 03.
+double-undouble : (s : List ℕ) (w : Bool) (c : List ℕ) → undouble w s ≡ some c → waiting w s ≡ ended c
+unfolding undouble
+double-undouble [] true c h = absurd (Option·none-ne-some _ h)
+double-undouble [] false c h = absurd (Option·none-ne-some _ h)
+double-undouble (b ∷ bs) true c h = go (eqb b DLE) refl (eqb b ETX) refl (double-undouble bs false)
+  where
+    go : (t : Bool) → eqb b DLE ≡ t → (u : Bool) → eqb b ETX ≡ u → ((d : List ℕ) → undouble false bs ≡ some d → bs ≡ ended d) → DLE ∷ b ∷ bs ≡ ended c
+    go true e u f ih =
+        let p : (d : List ℕ) × (undouble false bs ≡ some d) × (c ≡ DLE ∷ d) = push-some DLE _ c (sym (undouble-pair b bs e) ∙ h) in
+        ap (λ x. DLE ∷ x ∷ bs) (eqb-true b DLE e) ∙ ap (λ l. DLE ∷ DLE ∷ l) (ih (p .0) (p .1)) ∙ sym (ap ended (p .2) ∙ ap (λ l. l ++ DLE ∷ ETX ∷ []) (double-dle DLE (p .0) refl))
+    go false e true f ih =
+        let p : (bs ≡ []) × (c ≡ []) = atEnd-some bs c (sym (undouble-end b bs e f) ∙ h) in
+        ap (λ x. DLE ∷ x ∷ bs) (eqb-true b ETX f) ∙ ap (λ l. DLE ∷ ETX ∷ l) (p .0) ∙ sym (ap ended (p .1) ∙ ap (λ l. l ++ DLE ∷ ETX ∷ []) double-nil)
+    go false e false f ih = absurd (Option·none-ne-some _ (sym (undouble-bad b bs e f) ∙ h))
+double-undouble (b ∷ bs) false c h = go (eqb b DLE) refl (double-undouble bs true) (double-undouble bs false)
+  where
+    go : (t : Bool) → eqb b DLE ≡ t → ((d : List ℕ) → undouble true bs ≡ some d → DLE ∷ bs ≡ ended d) → ((d : List ℕ) → undouble false bs ≡ some d → bs ≡ ended d) → b ∷ bs ≡ ended c
+    go true e ih₁ ih₂ = ap (λ x. x ∷ bs) (eqb-true b DLE e) ∙ ih₁ c (sym (undouble-dle b bs e) ∙ h)
+    go false e ih₁ ih₂ =
+        let p : (d : List ℕ) × (undouble false bs ≡ some d) × (c ≡ b ∷ d) = push-some b _ c (sym (undouble-lone b bs e) ∙ h) in
+        ap (λ l. b ∷ l) (ih₂ (p .0) (p .1)) ∙ sym (ap ended (p .2) ∙ ap (λ l. l ++ DLE ∷ ETX ∷ []) (double-lone b (p .0) e))
+
+-- A content of at least two bytes is its address, its data and its checksum.
+parts : (c : List ℕ) → 2 ≤ length c → c ≡ addressIn c ∷ (dataIn c ++ checksumIn c ∷ [])
+parts [] h = absurd (not-suc-le-zero h)
+parts (x ∷ []) h = absurd (not-suc-le-zero (le-of-suc-le-suc h))
+parts (x ∷ y ∷ ys) h =
+    let data-end : length ys ≡ length (x ∷ y ∷ ys) - 2 = omega arith in
+    let sum-at : suc (length ys) ≡ length (x ∷ y ∷ ys) - 1 = omega arith in
+    ap (λ l. x ∷ l)
+    (sym (take-length (y ∷ ys))
+    ∙ take-suc (y ∷ ys) (length ys) 0 (le-refl (length (y ∷ ys)))
+    ∙ ap₂ (λ i j. take i (y ∷ ys) ++ getD (x ∷ y ∷ ys) j 0 ∷ []) data-end sum-at)
+
+-- A refusal is no 0.
+pub never-done : {n : ℕ} {r : Received} → ltb 0 n ≡ true → r ≡ refused n → r .number ≡ done → ⊥
+never-done {n} l e h = omega (arith, ltb-true 0 n l, sym (ap (λ r. r .number) e) ∙ h)
+
+-- The parts of a content that is put together.
+module _ (a : ℕ) (d : List ℕ) where
+  pub length-contentOf : length (contentOf a d) ≡ length d + 2
+  unfolding contentOf
+  length-contentOf = omega (arith, length-append d (checksum (a ∷ d) ∷ []))
+
+  dataIn-contentOf : dataIn (contentOf a d) ≡ d
+  unfolding contentOf
+  dataIn-contentOf = take-at d (checksum (a ∷ d) ∷ []) (length (contentOf a d) - 2) (omega (arith, length-contentOf))
+
+  checksumIn-contentOf : checksumIn (contentOf a d) ≡ checksum (a ∷ d)
+  unfolding contentOf
+  checksumIn-contentOf = getD-at (a ∷ d) (checksum (a ∷ d)) [] 0 (length (contentOf a d) - 1) (omega (arith, length-contentOf))
+
+  summed-contentOf : take (length (contentOf a d) - 1) (contentOf a d) ≡ a ∷ d
+  unfolding contentOf
+  summed-contentOf = take-at (a ∷ d) (checksum (a ∷ d) ∷ []) (length (contentOf a d) - 1) (omega (arith, length-contentOf))
+
+  addressIn-contentOf : addressIn (contentOf a d) ≡ a
+  unfolding contentOf
+  addressIn-contentOf = refl
+
+  -- A good content for its own address is judged 0, with its data.
+  pub judge-contentOf : 1 ≤ length d → judge a (contentOf a d) ≡ received d
+  unfolding judge
+  judge-contentOf h =
+      let long : ltb (length (contentOf a d)) 3 ≡ false = le-ltb (length (contentOf a d)) 3 (omega (arith, length-contentOf)) in
+      let summed : eqb (checksumIn (contentOf a d)) (checksum (take (length (contentOf a d) - 1) (contentOf a d))) ≡ true =
+            eq-eqb _ _ (checksumIn-contentOf ∙ sym (ap checksum summed-contentOf)) in
+      let ours : eqb (addressIn (contentOf a d)) a ≡ true = eq-eqb _ _ addressIn-contentOf in
+      rw (long, summed, ours, dataIn-contentOf)
+
+-- A content judged 0 is that of the address and of the data handed back with it.
+pub record Good (a : ℕ) (c d : List ℕ) : Type 0 where
+  pub content : c ≡ contentOf a d
+  pub least : 1 ≤ length d
+
+-- The tests of `judge`, by name.
+abbrev isShort : List ℕ → Bool
+isShort c = ltb (length c) 3
+
+abbrev isSummed : List ℕ → Bool
+isSummed c = eqb (checksumIn c) (checksum (take (length c - 1) c))
+
+-- What the checksum is taken of: address and data.
+front : (c : List ℕ) → 2 ≤ length c → take (length c - 1) c ≡ addressIn c ∷ dataIn c
+front [] h = absurd (not-suc-le-zero h)
+front (x ∷ xs) h =
+    let e : length (x ∷ xs) - 1 ≡ suc (length (x ∷ xs) - 2) = omega arith in
+    ap (λ n. take n (x ∷ xs)) e
+
+-- The parts of a content whose tests pass make it up again.
+good : (a : ℕ) (c : List ℕ) → 3 ≤ length c → checksumIn c ≡ checksum (take (length c - 1) c) → addressIn c ≡ a → Good a c (dataIn c)
+unfolding contentOf
+good a c h s e =
+    let long : 2 ≤ length c = omega arith in
+    record {
+      content =
+        parts c long
+        ∙ ap₂ (λ p k. p ∷ (dataIn c ++ k ∷ [])) e (s ∙ ap checksum (front c long ∙ ap (λ p. p ∷ dataIn c) e));
+      least = omega (arith, ap length (parts c long), length-append (dataIn c) (checksumIn c ∷ []))
+    }
+
+-- `judge`, by the outcome of its tests.
+judge-by : (a : ℕ) (c : List ℕ) (t u v : Bool) → isShort c ≡ t → isSummed c ≡ u → eqb (addressIn c) a ≡ v
+  → judge a c ≡ cond t (refused tooShort) (cond u (cond v (received (dataIn c)) (refused otherAddress)) (refused badChecksum))
+unfolding judge
+judge-by a c t u v s p q = rw (s, p, q)
+
+pub judge-only : (a : ℕ) (c : List ℕ) → judge a c .number ≡ done → Good a c (judge a c .payload)
+judge-only a c h = go (isShort c) refl (isSummed c) refl (eqb (addressIn c) a) refl
+  where
+    go : (t : Bool) → isShort c ≡ t → (u : Bool) → isSummed c ≡ u → (v : Bool) → eqb (addressIn c) a ≡ v → Good a c (judge a c .payload)
+    go true s u p v q = absurd (never-done refl (judge-by a c true u v s p q) h)
+    go false s false p v q = absurd (never-done refl (judge-by a c false false v s p q) h)
+    go false s true p false q = absurd (never-done refl (judge-by a c false true false s p q) h)
+    go false s true p true q = rw (judge-by a c false true true s p q) (good a c (ltb-false _ _ s) (eqb-true _ _ p) (eqb-true _ _ q))
+
+-- The whole string. Its reading, by the outcome of the test on its first two bytes.
+pub readFrame-wrap : (a : ℕ) (c : List ℕ) → readFrame a (wrap c) ≡ judgeWhole a (some c)
+unfolding readFrame wrap
+readFrame-wrap a c = ap (judgeWhole a) (undouble-double c)
+
+-- The frame of data of 1 to 256 bytes is read, for its own address, as that data.
+pub readFrame-frame : (a : ℕ) (d : List ℕ) → Sized d → readFrame a (frame a d) ≡ received d
+unfolding frame judgeWhole
+readFrame-frame a d h =
+    let fits : ltb maxContent (length (contentOf a d)) ≡ false = le-ltb maxContent (length (contentOf a d)) (omega (arith, length-contentOf a d)) in
+    readFrame-wrap a (contentOf a d) ∙ rw fits (judge-contentOf a d (h .least))
+
+-- A string or datagram that is read as data is the written form of that data, whose size is right.
+pub record Written (form : List ℕ → List ℕ) (s d : List ℕ) : Type 0 where
+  pub written : s ≡ form d
+  pub size : Sized d
+
+judgeWhole-by : (a : ℕ) (c : List ℕ) (t : Bool) → ltb maxContent (length c) ≡ t → judgeWhole a (some c) ≡ cond t (refused tooLong) (judge a c)
+unfolding judgeWhole
+judgeWhole-by a c t e = rw e
+
+-- The content that a string stands for, where its rows 3 to 7 all pass.
+pub record Whole (a : ℕ) (o : Option (List ℕ)) (d : List ℕ) : Type 0 where
+  pub content : List ℕ
+  pub is : o ≡ some content
+  pub good : Good a content d
+  pub most : length content ≤ maxContent
+
+judgeWhole-only : (a : ℕ) (o : Option (List ℕ)) → judgeWhole a o .number ≡ done → Whole a o (judgeWhole a o .payload)
+unfolding judgeWhole
+judgeWhole-only a none h = absurd (omega (arith, h))
+judgeWhole-only a (some c) h = go (ltb maxContent (length c)) refl
+  where
+    go : (t : Bool) → ltb maxContent (length c) ≡ t → Whole a (some c) (judgeWhole a (some c) .payload)
+    go true e = absurd (never-done refl (judgeWhole-by a c true e) h)
+    go false e =
+        record {
+          content = c;
+          is = refl;
+          good = rw e (judge-only a c (sym (ap (λ r. r .number) (judgeWhole-by a c false e)) ∙ h));
+          most = ltb-false maxContent (length c) e
+        }
+
+-- The test on the first two bytes.
+abbrev isOpened : List ℕ → Bool
+isOpened s = eqb (getD s 0 0) DLE && eqb (getD s 1 0) STX
+
+opened : (s : List ℕ) → isOpened s ≡ true → s ≡ DLE ∷ STX ∷ drop 2 s
+opened [] h = absurd (false≢true h)
+opened (x ∷ []) h = absurd (false≢true (and-eq-true-iff (eqb x DLE) false .0 h .1))
+opened (x ∷ y ∷ ys) h =
+    let p : (eqb x DLE ≡ true) × (eqb y STX ≡ true) = and-eq-true-iff (eqb x DLE) (eqb y STX) .0 h in
+    ap₂ (λ p q. p ∷ q ∷ ys) (eqb-true x DLE (p .0)) (eqb-true y STX (p .1))
+
+readFrame-by : (a : ℕ) (s : List ℕ) (t : Bool) → isOpened s ≡ t → readFrame a s ≡ cond t (judgeWhole a (undouble false (drop 2 s))) (refused noPreamble)
+unfolding readFrame
+readFrame-by a s t e = rw e
+
+-- A string that is read for an address with 0 is the frame, for that address, of the data read.
+pub readFrame-only : (a : ℕ) (s : List ℕ) → readFrame a s .number ≡ done → Written (frame a) s (readFrame a s .payload)
+unfolding frame wrap
+readFrame-only a s h = go (isOpened s) refl
+  where
+    go : (t : Bool) → isOpened s ≡ t → Written (frame a) s (readFrame a s .payload)
+    go false e = absurd (never-done refl (readFrame-by a s false e) h)
+    go true e =
+        let w : Whole a (undouble false (drop 2 s)) (judgeWhole a (undouble false (drop 2 s)) .payload) =
+              judgeWhole-only a (undouble false (drop 2 s)) (sym (ap (λ r. r .number) (readFrame-by a s true e)) ∙ h) in
+        rw (readFrame-by a s true e)
+        (record {
+          written = opened s e ∙ ap (λ l. DLE ∷ STX ∷ l) (double-undouble (drop 2 s) false (w .content) (w .is)) ∙ ap wrap (w .good .content);
+          size = record { least = w .good .least; most = omega (arith, w .most, ap length (w .good .content), length-contentOf a (judgeWhole a (undouble false (drop 2 s)) .payload)) }
+        })
+
+-- No string is the frame of two contents, nor of two addresses or two data.
+pub wrap-injective : (c c′ : List ℕ) → wrap c ≡ wrap c′ → c ≡ c′
+unfolding wrap
+wrap-injective c c′ h =
+    Option·some-injective _ _
+    (sym (undouble-double c) ∙ ap (λ s. undouble false (drop 2 s)) h ∙ undouble-double c′)
+
+pub frame-injective : (a a′ : ℕ) (d d′ : List ℕ) → frame a d ≡ frame a′ d′ → (a ≡ a′) × (d ≡ d′)
+unfolding frame
+frame-injective a a′ d d′ h =
+    let c : contentOf a d ≡ contentOf a′ d′ = wrap-injective (contentOf a d) (contentOf a′ d′) h in
+    (sym (addressIn-contentOf a d) ∙ ap addressIn c ∙ addressIn-contentOf a′ d′,
+    sym (dataIn-contentOf a d) ∙ ap dataIn c ∙ dataIn-contentOf a′ d′)
+
+-- Rows 4 and 5 of data.
+pub ifSized-sized : (d : List ℕ) → Sized d → ifSized d ≡ received d
+unfolding ifSized
+ifSized-sized d h =
+    rw (ne-eqb (length d) 0 (λ e. omega (arith, h .least, e)), le-ltb maxData (length d) (h .most))
+
+ifSized-by : (d : List ℕ) (t u : Bool) → eqb (length d) 0 ≡ t → ltb maxData (length d) ≡ u
+  → ifSized d ≡ cond t (refused tooShort) (cond u (refused tooLong) (received d))
+unfolding ifSized
+ifSized-by d t u e f = rw (e, f)
+
+pub ifSized-only : (d : List ℕ) → ifSized d .number ≡ done → (ifSized d ≡ received d) × Sized d
+ifSized-only d h = go (eqb (length d) 0) refl (ltb maxData (length d)) refl
+  where
+    go : (t : Bool) → eqb (length d) 0 ≡ t → (u : Bool) → ltb maxData (length d) ≡ u → (ifSized d ≡ received d) × Sized d
+    go true e u f = absurd (never-done refl (ifSized-by d true u e f) h)
+    go false e true f = absurd (never-done refl (ifSized-by d false true e f) h)
+    go false e false f =
+        (ifSized-by d false false e f,
+        record { least = omega (arith, eqb-false (length d) 0 e); most = ltb-false maxData (length d) f })
+
+-- Datagrams: the same of four zeros and the data.
+pub readDatagram-datagram : (d : List ℕ) → Sized d → readDatagram (datagram d) ≡ received d
+unfolding readDatagram datagram every
+readDatagram-datagram d h = rw (le-leb 4 (length (datagram d)) (omega arith)) (ifSized-sized d h)
+
+zeros : (s : List ℕ) → fourZeros s ≡ true → s ≡ datagram (drop 4 s)
+unfolding datagram every
+zeros [] h = absurd (false≢true h)
+zeros (a ∷ []) h = absurd (false≢true h)
+zeros (a ∷ b ∷ []) h = absurd (false≢true h)
+zeros (a ∷ b ∷ c ∷ []) h = absurd (false≢true h)
+zeros (a ∷ b ∷ c ∷ d ∷ bs) h =
+    let p = and-eq-true-iff (leb 4 (length (a ∷ b ∷ c ∷ d ∷ bs))) _ .0 h .1 in
+    let q = and-eq-true-iff (eqb a 0) _ .0 p in
+    let r = and-eq-true-iff (eqb b 0) _ .0 (q .1) in
+    let t = and-eq-true-iff (eqb c 0) _ .0 (r .1) in
+    let u = and-eq-true-iff (eqb d 0) _ .0 (t .1) in
+    cc (eqb-true a 0 (q .0), eqb-true b 0 (r .0), eqb-true c 0 (t .0), eqb-true d 0 (u .0))
+
+readDatagram-by : (s : List ℕ) (t : Bool) → fourZeros s ≡ t → readDatagram s ≡ cond t (ifSized (drop 4 s)) (refused noPreamble)
+unfolding readDatagram
+readDatagram-by s t e = rw e
+
+pub readDatagram-only : (s : List ℕ) → readDatagram s .number ≡ done → Written datagram s (readDatagram s .payload)
+readDatagram-only s h = go (fourZeros s) refl
+  where
+    go : (t : Bool) → fourZeros s ≡ t → Written datagram s (readDatagram s .payload)
+    go false e = absurd (never-done refl (readDatagram-by s false e) h)
+    go true e =
+        let p : (ifSized (drop 4 s) ≡ received (drop 4 s)) × Sized (drop 4 s) =
+              ifSized-only (drop 4 s) (sym (ap (λ r. r .number) (readDatagram-by s true e)) ∙ h) in
+        rw (readDatagram-by s true e ∙ p .0) (record { written = zeros s e; size = p .1 })
+
+pub datagram-injective : (d d′ : List ℕ) → datagram d ≡ datagram d′ → d ≡ d′
+unfolding datagram
+datagram-injective d d′ h = ap (drop 4) h

@@ -1,0 +1,160 @@
+-- Document 01, "Requests and replies" and "Numbers returned": what the box answers to a request's data.
+use Prim.Native.Nat.{ℕ}
+use mathlib.Core.Bool.{Bool, true, false, cond, _&&_}
+use mathlib.Core.List.{List, [], _∷_, _++_}
+use mathlib.Core.Option.{Option, none, some}
+use lib.ListN.{length, set}
+use lib.Dec.{eqb, leb}
+use Rattle.protocol.specs.Numbers.{done, disabled, unknownCommand, badParameter, noReading, notSaved, PDI, ERROR, ACK, DISABLED, NAK, ILLEGAL, opDetect, opNode, opRecord, opRead, opWrite, standard, statusOk, saveFailed, saveDone, saveNone}
+use Rattle.protocol.specs.Bytes.{half, word, text, texts, atMost}
+use Rattle.protocol.specs.Request.{Request, Asked, readRequest}
+use Rattle.protocol.specs.Tree.{Node, Property, Tree, Cell, canRead, canWrite, isSigned, childrenOf, propertiesOf, propertyOf, nodeAt, nodeIn, propertyIn, cellIn, readable}
+
+-- The range rule. "Type 1 with min and max both 0 has no range; otherwise the value lies in min..max, both ends allowed,
+-- signed exactly when format bit 15 is set. Type 2 allows 0..max, always unsigned, also where max is 0."
+abbrev pub within : Bool → Property → ℕ → Bool
+within signed p v = atMost signed (p .min) v && atMost signed v (p .max)
+
+unfoldable pub inRange : Property → ℕ → Bool
+inRange p v =
+    cond (eqb (p .kind) standard)
+    (cond (eqb (p .min) 0 && eqb (p .max) 0) true (within (isSigned p) p v))
+    (leb v (p .max))
+
+-- What a write does: the value is saved, the action is taken, or neither, and why.
+pub data Outcome : Type 0 where
+  saved taken readOnly outOfRange : Outcome
+
+-- "Read only" (no write attribute) or "Range", tested in that order. "An action takes any value."
+unfoldable pub outcome : Property → ℕ → Outcome
+outcome p v =
+    cond (canWrite p) (cond (canRead p) (cond (inRange p v) saved outOfRange) taken) readOnly
+
+-- "Save is 01 stored, 02 action taken, 00 not saved."
+unfoldable pub saveByte : Outcome → ℕ
+saveByte saved = saveDone
+saveByte taken = saveNone
+saveByte readOnly = saveFailed
+saveByte outOfRange = saveFailed
+
+-- "The text of op 5 is empty on success, else "Read only" or "Range"."
+unfoldable pub reason : Outcome → List ℕ
+reason saved = []
+reason taken = []
+reason readOnly = 0x52 ∷ 0x65 ∷ 0x61 ∷ 0x64 ∷ 0x20 ∷ 0x6F ∷ 0x6E ∷ 0x6C ∷ 0x79 ∷ []
+reason outOfRange = 0x52 ∷ 0x61 ∷ 0x6E ∷ 0x67 ∷ 0x65 ∷ []
+
+unfoldable pub writeNumber : Outcome → ℕ
+writeNumber saved = done
+writeNumber taken = done
+writeNumber readOnly = notSaved
+writeNumber outOfRange = notSaved
+
+-- What stands in a setting's cell once a value is saved in it.
+abbrev pub stored : Cell → ℕ → Cell
+stored c v = record { word = v; ready = c .ready }
+
+unfoldable pub cellsAfter : Outcome → List Cell → ℕ → ℕ → List Cell
+cellsAfter saved cs place v = set cs place (stored (cellIn cs place) v)
+cellsAfter taken cs place v = cs
+cellsAfter readOnly cs place v = cs
+cellsAfter outOfRange cs place v = cs
+
+-- "cells unchanged; the caller is told which property"
+unfoldable pub actionOf : Outcome → ℕ → Option ℕ
+actionOf saved place = none
+actionOf taken place = some place
+actionOf readOnly place = none
+actionOf outOfRange place = none
+
+-- The replies of the table's last column. B4, the op and the path stand in front, then the index where there is one.
+abbrev pub echo : Request → List ℕ
+echo r = PDI ∷ r .op ∷ r .path
+
+abbrev pub echoIndexed : Request → List ℕ
+echoIndexed r = echo r ++ r .index ∷ []
+
+unfoldable pub nodeReply : Tree → ℕ → Request → List ℕ
+nodeReply t place r =
+    echo r ++ length (childrenOf t place) ∷ length (propertiesOf t place) ∷ text (nodeIn t place .name)
+
+unfoldable pub recordReply : Property → Request → List ℕ
+recordReply p r =
+    echoIndexed r
+    ++ p .kind ∷ (word (p .min) ++ (word (p .max) ++ (half (p .attribute) ++ (half (p .format) ++ (text (p .label) ++ texts (p .options))))))
+
+-- Document 003, 5.4: a status byte before the value, 01 for OK.
+unfoldable pub readReply : Cell → Request → List ℕ
+readReply c r = echoIndexed r ++ statusOk ∷ word (c .word)
+
+-- "The value in replies 4 and 5 is always the four bytes sent."
+unfoldable pub writeReply : Outcome → Request → List ℕ
+writeReply o r =
+    echoIndexed r
+    ++ 0 ∷ (word (r .value) ++ saveByte o ∷ cond (eqb (r .op) opWrite) [] (text (reason o)))
+
+-- What a call answers: the number, the reply's data, the cells afterwards, and the place of the property whose action is
+-- to be taken.
+pub record Answer : Type 0 where
+  pub number : ℕ
+  pub reply : List ℕ
+  pub cells : List Cell
+  pub action : Option ℕ
+
+-- A reply that leaves every cell as it is and takes no action.
+abbrev pub plain : List Cell → ℕ → List ℕ → Answer
+plain cs n bs = record { number = n; reply = bs; cells = cs; action = none }
+
+-- Rows 9 to 12: the reply code of a refusal.
+unfoldable pub refusalCode : ℕ → ℕ
+refusalCode n =
+    cond (eqb n disabled) DISABLED (cond (eqb n unknownCommand) ILLEGAL (cond (eqb n badParameter) ERROR NAK))
+
+abbrev pub refuse : List Cell → ℕ → Answer
+refuse cs n = plain cs n (refusalCode n ∷ [])
+
+unfoldable pub onRead : List Cell → Property → ℕ → Request → Answer
+onRead cs p place r =
+    cond (readable p (cellIn cs place)) (plain cs done (readReply (cellIn cs place) r)) (refuse cs noReading)
+
+unfoldable pub onWrite : List Cell → ℕ → Request → Outcome → Answer
+onWrite cs place r o =
+    record {
+      number = writeNumber o;
+      reply = writeReply o r;
+      cells = cellsAfter o cs place (r .value);
+      action = actionOf o place;
+    }
+
+-- Ops 2 to 5 once the property is found.
+unfoldable pub onProperty : Tree → List Cell → Request → ℕ → Answer
+onProperty t cs r place =
+    cond (eqb (r .op) opRecord)
+    (plain cs done (recordReply (propertyIn t place) r))
+    (cond (eqb (r .op) opRead)
+    (onRead cs (propertyIn t place) place r)
+    (onWrite cs place r (outcome (propertyIn t place) (r .value))))
+
+-- "no such node or property" is 11.
+unfoldable pub ifProperty : Tree → List Cell → Request → Option ℕ → Answer
+ifProperty t cs r none = refuse cs badParameter
+ifProperty t cs r (some place) = onProperty t cs r place
+
+unfoldable pub ifNode : Tree → List Cell → Request → Option ℕ → Answer
+ifNode t cs r none = refuse cs badParameter
+ifNode t cs r (some place) =
+    cond (eqb (r .op) opNode)
+    (plain cs done (nodeReply t place r))
+    (ifProperty t cs r (propertyOf t place (record { 0 = r .index })))
+
+-- A request answered.
+unfoldable pub perform : Tree → List Cell → Request → Answer
+perform t cs r = cond (eqb (r .op) opDetect) (plain cs done (ACK ∷ [])) (ifNode t cs r (nodeAt t (r .path)))
+
+unfoldable pub ifAsked : Tree → List Cell → Asked → Answer
+ifAsked t cs a = cond (eqb (a .number) done) (perform t cs (a .request)) (refuse cs (a .number))
+
+-- Data answered, host functions on (true) or off: 9, then 10 and 11, then 12 or 13.
+unfoldable pub answer : Tree → List Cell → Bool → List ℕ → Answer
+answer t cs true bs = ifAsked t cs (readRequest bs)
+answer t cs false bs = refuse cs disabled

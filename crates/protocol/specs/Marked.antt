@@ -1,0 +1,66 @@
+-- The cases of document 01 that are marked to be proved, one row each. (The read case as document 003, 5.4, decides: status 01.)
+use Prim.Native.Nat.{ℕ}
+use mathlib.Core.Bool.{Bool, true, false}
+use mathlib.Core.List.{List, [], _∷_, _++_, map}
+use Rattle.protocol.specs.Frame.{frame}
+use Rattle.protocol.specs.Tree.{Tree, Cell}
+use Rattle.protocol.specs.Answer.{Answer, answer}
+use Rattle.protocol.specs.Bench.{benchTree, benchCells}
+
+-- What a case looks at: data answered by the bench box, from its words, with host functions on; or data framed for an
+-- address.
+pub data Case : Type 0 where
+  ask : List ℕ → Case
+  write : ℕ → List ℕ → Case
+
+-- What is seen: number, reply and the words afterwards; or the frame.
+pub data Seen : Type 0 where
+  answered : ℕ → List ℕ → List ℕ → Seen
+  written : List ℕ → Seen
+
+abbrev shown : Answer → Seen
+shown a = answered (a .number) (a .reply) (map (λ c. c .word) (a .cells))
+
+unfoldable pub seen : Case → Seen
+seen (ask bs) = shown (answer benchTree benchCells true bs)
+seen (write address bs) = written (frame address bs)
+
+pub record Row : Type 0 where
+  pub given : Case
+  pub expected : Seen
+
+-- A row in which no word changes, and one in which "Average" holds another.
+abbrev same : List ℕ → ℕ → List ℕ → Row
+same bs number reply = record { given = ask bs; expected = answered number reply (2100 ∷ 8500 ∷ 4 ∷ 0 ∷ 0 ∷ []) }
+
+abbrev averaged : List ℕ → List ℕ → ℕ → Row
+averaged bs reply average = record { given = ask bs; expected = answered 0 reply (2100 ∷ 8500 ∷ average ∷ 0 ∷ 0 ∷ []) }
+
+-- A request whose reply repeats it and adds some bytes.
+abbrev adds : List ℕ → ℕ → List ℕ → Row
+adds bs number more = same bs number (bs ++ more)
+
+unfoldable pub markedCases : List Row
+markedCases =
+    same (0xB4 ∷ 0x00 ∷ []) 0 (0x55 ∷ [])
+    ∷ adds (0xB4 ∷ 0x01 ∷ 0x01 ∷ []) 0 (0x02 ∷ 0x00 ∷ 0x42 ∷ 0x6F ∷ 0x78 ∷ 0x00 ∷ [])
+    ∷ adds (0xB4 ∷ 0x02 ∷ 0x01 ∷ 0x02 ∷ 0x02 ∷ []) 0
+    (0x02 ∷ 0x00 ∷ 0x00 ∷ 0x00 ∷ 0x00 ∷ 0x00 ∷ 0x00 ∷ 0x00 ∷ 0x01 ∷ 0x00 ∷ 0x03 ∷ 0x10 ∷ 0x80
+    ∷ 0x52 ∷ 0x61 ∷ 0x74 ∷ 0x65 ∷ 0x00 ∷ 0x53 ∷ 0x6C ∷ 0x6F ∷ 0x77 ∷ 0x00 ∷ 0x46 ∷ 0x61 ∷ 0x73 ∷ 0x74 ∷ 0x00 ∷ [])
+    ∷ adds (0xB4 ∷ 0x03 ∷ 0x01 ∷ 0x01 ∷ 0x01 ∷ []) 0 (0x01 ∷ 0x00 ∷ 0x00 ∷ 0x08 ∷ 0x34 ∷ [])
+    ∷ same (0xB4 ∷ 0x03 ∷ 0x01 ∷ 0x01 ∷ 0x02 ∷ []) 12 (0x58 ∷ [])
+    ∷ averaged (0xB4 ∷ 0x04 ∷ 0x01 ∷ 0x02 ∷ 0x01 ∷ 0x00 ∷ 0x00 ∷ 0x00 ∷ 0x00 ∷ 0x40 ∷ [])
+    (0xB4 ∷ 0x04 ∷ 0x01 ∷ 0x02 ∷ 0x01 ∷ 0x00 ∷ 0x00 ∷ 0x00 ∷ 0x00 ∷ 0x40 ∷ 0x01 ∷ []) 0x40
+    ∷ adds (0xB4 ∷ 0x04 ∷ 0x01 ∷ 0x02 ∷ 0x01 ∷ 0x00 ∷ 0x00 ∷ 0x00 ∷ 0x00 ∷ 0x41 ∷ []) 13 (0x00 ∷ [])
+    ∷ adds (0xB4 ∷ 0x04 ∷ 0x01 ∷ 0x02 ∷ 0x02 ∷ 0x00 ∷ 0x00 ∷ 0x00 ∷ 0x00 ∷ 0x02 ∷ []) 13 (0x00 ∷ [])
+    ∷ adds (0xB4 ∷ 0x04 ∷ 0x01 ∷ 0x02 ∷ 0x03 ∷ 0x00 ∷ 0x00 ∷ 0x00 ∷ 0x00 ∷ 0x00 ∷ []) 0 (0x02 ∷ [])
+    ∷ adds (0xB4 ∷ 0x05 ∷ 0x01 ∷ 0x01 ∷ 0x01 ∷ 0x00 ∷ 0x00 ∷ 0x00 ∷ 0x00 ∷ 0x00 ∷ []) 13
+    (0x00 ∷ 0x52 ∷ 0x65 ∷ 0x61 ∷ 0x64 ∷ 0x20 ∷ 0x6F ∷ 0x6E ∷ 0x6C ∷ 0x79 ∷ 0x00 ∷ [])
+    ∷ same (0xB4 ∷ 0x04 ∷ 0x01 ∷ 0x02 ∷ 0x01 ∷ 0x00 ∷ 0x00 ∷ 0x00 ∷ 0x00 ∷ []) 11 (0x54 ∷ [])
+    ∷ same (0xB4 ∷ 0x03 ∷ 0x01 ∷ 0x03 ∷ 0x01 ∷ []) 11 (0x54 ∷ [])
+    ∷ same (0xB4 ∷ 0x06 ∷ []) 10 (0x59 ∷ [])
+    ∷ record {
+      given = write 0x3B (0xB4 ∷ 0x00 ∷ []);
+      expected = written (0x10 ∷ 0x02 ∷ 0x3B ∷ 0xB4 ∷ 0x00 ∷ 0x10 ∷ 0x10 ∷ 0x10 ∷ 0x03 ∷ []);
+    }
+    ∷ []

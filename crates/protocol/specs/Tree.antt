@@ -1,0 +1,204 @@
+-- Document 01, "The tree": nodes, properties, the rules they keep, and the cells beside them.
+use Prim.Native.Nat.{ℕ, zero, suc, _+_}
+use mathlib.Core.Bool.{Bool, true, false, cond, not, _&&_}
+use mathlib.Core.List.{List, [], _∷_, _++_}
+use mathlib.Core.Option.{Option, none, some}
+use lib.ListN.{length, getD, getElem?, drop, set}
+use lib.Dec.{eqb, ltb, leb}
+use Rattle.protocol.specs.declared.NodeNumber.{NodeNumber}
+use Rattle.protocol.specs.declared.PropertyIndex.{PropertyIndex}
+use Rattle.protocol.specs.Numbers.{done, notLive, standard, enumeration, bitRead, bitWrite, bitLive, bitSigned, maxDepth, maxNodes, maxProperties, maxName, maxTexts, maxOption, firstCharacter, lastCharacter, halfEnd, wordEnd}
+use Rattle.protocol.specs.Bytes.{every, texts, bit, atMost}
+
+-- A node names its parent by the parent's place in the list. The device, which has none, names itself, place 0.
+pub record Node : Type 0 where
+  pub parent : ℕ
+  pub name : List ℕ
+
+-- "A property has record type (1 or 2), min, max (32 bits), attribute and format (16 bits), label, and unit or options."
+-- It names its node by the node's place. A unit is a list of one text.
+pub record Property : Type 0 where
+  pub node : ℕ
+  pub kind : ℕ
+  pub min : ℕ
+  pub max : ℕ
+  pub attribute : ℕ
+  pub format : ℕ
+  pub label : List ℕ
+  pub options : List (List ℕ)
+
+pub record Tree : Type 0 where
+  pub nodes : List Node
+  pub properties : List Property
+
+-- "Attribute 0001h read, 0002h write, 2000h live; other bits are carried unread."
+abbrev pub canRead : Property → Bool
+canRead p = bit bitRead (p .attribute)
+
+abbrev pub canWrite : Property → Bool
+canWrite p = bit bitWrite (p .attribute)
+
+abbrev pub isLive : Property → Bool
+isLive p = bit bitLive (p .attribute)
+
+-- "signed exactly when format bit 15 is set"
+abbrev pub isSigned : Property → Bool
+isSigned p = bit bitSigned (p .format)
+
+-- "A property with write and without read is an action."
+abbrev pub isAction : Property → Bool
+isAction p = canWrite p && not (canRead p)
+
+-- The places, counted from k, of the entries that pass a test: "in list order".
+module _ {A : Type 0} where
+  unfoldable pub placesFrom : ℕ → (A → Bool) → List A → List ℕ
+  placesFrom k f [] = []
+  placesFrom k f (x ∷ xs) = cond (f x) (k ∷ placesFrom (suc k) f xs) (placesFrom (suc k) f xs)
+
+-- The entry with a number, counted 1, 2, ..
+unfoldable pub numbered : List ℕ → ℕ → Option ℕ
+numbered xs zero = none
+numbered xs (suc n) = getElem? xs n
+
+-- "children are numbered 1, 2, .. in list order": the places of a node's children. The device is nobody's child.
+unfoldable pub childrenOf : Tree → ℕ → List ℕ
+childrenOf t place = placesFrom 1 (λ n. eqb (n .parent) place) (drop 1 (t .nodes))
+
+-- "every property names a node, and those of one node are numbered likewise"
+unfoldable pub propertiesOf : Tree → ℕ → List ℕ
+propertiesOf t place = placesFrom 0 (λ p. eqb (p .node) place) (t .properties)
+
+-- A child by its node number, a property by its property index. "an index never stands where a node number is wanted"
+abbrev pub childOf : Tree → ℕ → NodeNumber → Option ℕ
+childOf t place n = numbered (childrenOf t place) (n .0)
+
+abbrev pub propertyOf : Tree → ℕ → PropertyIndex → Option ℕ
+propertyOf t place i = numbered (propertiesOf t place) (i .0)
+
+-- The node of a path: from a node at a place, child after child; from the top, "the first node is the device, path 1".
+unfoldable pub descend : Tree → ℕ → List ℕ → Option ℕ
+descend t place [] = some place
+descend t place (n ∷ ns) = elim (childOf t place (record { 0 = n })) [ none ↦ none | some child ↦ descend t child ns ]
+
+unfoldable pub nodeAt : Tree → List ℕ → Option ℕ
+nodeAt t [] = none
+nodeAt t (n ∷ ns) = cond (eqb n 1) (descend t 0 ns) none
+
+-- What stands at a place of a list. (No answer comes from a place past the end.)
+abbrev pub nodeIn : Tree → ℕ → Node
+nodeIn t place = getD (t .nodes) place (record { parent = 0; name = [] })
+
+abbrev pub propertyIn : Tree → ℕ → Property
+propertyIn t place =
+    getD (t .properties) place
+    (record {
+      node = 0;
+      kind = 0;
+      min = 0;
+      max = 0;
+      attribute = 0;
+      format = 0;
+      label = [];
+      options = [];
+    })
+
+-- The rules. "characters, 20h to 7Eh"
+abbrev pub isCharacter : ℕ → Bool
+isCharacter b = leb firstCharacter b && leb b lastCharacter
+
+abbrev pub isText : List ℕ → Bool
+isText s = every isCharacter s
+
+-- "Names and labels have at most 23 characters"
+unfoldable pub isName : List ℕ → Bool
+isName s = leb (length s) maxName && isText s
+
+-- "Every other node names a parent earlier in the list": the nodes from place k on.
+unfoldable pub parentsFrom : ℕ → List Node → Bool
+parentsFrom k [] = true
+parentsFrom k (n ∷ ns) = ltb (n .parent) k && parentsFrom (suc k) ns
+
+unfoldable pub parentsSound : List Node → Bool
+parentsSound [] = false
+parentsSound (device ∷ ns) = eqb (device .parent) 0 && parentsFrom 1 ns
+
+-- The depth of each node, after those whose depths are known: the device has 1, a child one more than its parent.
+unfoldable pub depthsAfter : List ℕ → List Node → List ℕ
+depthsAfter known [] = known
+depthsAfter known (n ∷ ns) = depthsAfter (known ++ suc (getD known (n .parent) 0) ∷ []) ns
+
+-- "Depth at most 16"
+unfoldable pub depthsSound : List Node → Bool
+depthsSound ns = every (λ d. leb d maxDepth) (depthsAfter [] ns)
+
+-- "Live needs read and forbids write."
+unfoldable pub liveSound : Property → Bool
+liveSound p = cond (isLive p) (canRead p && not (canWrite p)) true
+
+-- "Type 1: one unit text; min not above max, signed exactly when format bit 15 is set."
+unfoldable pub standardSound : Property → Bool
+standardSound p = eqb (length (p .options)) 1 && atMost (isSigned p) (p .min) (p .max)
+
+-- "Type 2: min 0, max 0 to 15, exactly max+1 options."
+unfoldable pub enumerationSound : Property → Bool
+enumerationSound p = eqb (p .min) 0 && (leb (p .max) maxOption && eqb (length (p .options)) (suc (p .max)))
+
+unfoldable pub kindSound : Property → Bool
+kindSound p = cond (eqb (p .kind) standard) (standardSound p) (eqb (p .kind) enumeration && enumerationSound p)
+
+-- "Unit and options use the same characters and take at most 160 bytes, zeros included."
+unfoldable pub optionsSound : List (List ℕ) → Bool
+optionsSound ss = every isText ss && leb (length (texts ss)) maxTexts
+
+abbrev pub widthsSound : Property → Bool
+widthsSound p =
+    ltb (p .min) wordEnd && (ltb (p .max) wordEnd && (ltb (p .attribute) halfEnd && ltb (p .format) halfEnd))
+
+-- One property, in a tree of so many nodes.
+unfoldable pub propertySound : ℕ → Property → Bool
+propertySound nodes p =
+    ltb (p .node) nodes
+    && (widthsSound p && (liveSound p && (kindSound p && (isName (p .label) && optionsSound (p .options)))))
+
+-- "1 to 64 nodes, 0 to 128 properties", and every rule above.
+unfoldable pub nodesSound : List Node → Bool
+nodesSound ns =
+    leb (length ns) maxNodes && (parentsSound ns && (depthsSound ns && every (λ n. isName (n .name)) ns))
+
+unfoldable pub propertiesSound : Tree → Bool
+propertiesSound t =
+    leb (length (t .properties)) maxProperties && every (propertySound (length (t .nodes))) (t .properties)
+
+unfoldable pub sound : Tree → Bool
+sound t = nodesSound (t .nodes) && propertiesSound t
+
+-- "one cell for each property: a 32-bit word and a ready mark (used for live only)"
+pub record Cell : Type 0 where
+  pub word : ℕ
+  pub ready : Bool
+
+abbrev pub cellIn : List Cell → ℕ → Cell
+cellIn cs place = getD cs place (record { word = 0; ready = false })
+
+unfoldable pub cellsSound : Tree → List Cell → Bool
+cellsSound t cs = eqb (length cs) (length (t .properties)) && every (λ c. ltb (c .word) wordEnd) cs
+
+-- Whether a property has a number to read: it has read, and if it is live its cell is ready.
+unfoldable pub readable : Property → Cell → Bool
+readable p c = canRead p && cond (isLive p) (c .ready) true
+
+-- "The converter posts to a live cell: marked ready, the word becomes the posted one; marked not ready, the word stays."
+abbrev pub posted : Cell → ℕ → Bool → Cell
+posted c w true = record { word = w; ready = true }
+posted c w false = record { word = c .word; ready = false }
+
+pub record Posting : Type 0 where
+  pub number : ℕ
+  pub cells : List Cell
+
+-- Row 14: "posting to a cell that does not exist or is not live"
+unfoldable pub post : Tree → List Cell → ℕ → ℕ → Bool → Posting
+post t cs place w ready =
+    cond (ltb place (length (t .properties)) && isLive (propertyIn t place))
+    (record { number = done; cells = set cs place (posted (cellIn cs place) w ready) })
+    (record { number = notLive; cells = cs })
