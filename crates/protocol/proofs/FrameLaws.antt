@@ -15,7 +15,7 @@ use Rattle.protocol.specs.Numbers.{done, noPreamble, tooShort, tooLong, 
 use Rattle.protocol.specs.Bytes.{every}
 use Rattle.protocol.specs.Frame.{Received, double, undouble, push, atEnd, checksum, contentOf, addressIn, dataIn, checksumIn, received, refused, judge, judgeWhole, readFrame, frame, wrap, Sized, ifSized, datagram, readDatagram, fourZeros}
 
-double-nil : double [] ≡ []
+pub double-nil : double [] ≡ []
 unfolding double
 double-nil = refl
 

@@ -3,7 +3,7 @@
 use Prim.Native.Nat.{ℕ, suc, _+_, _-_, _<_, _≤_}
 use native.Mathlib.Omega.{arith}
 use native.Mathlib.Nat.{add-suc, suc-add, add-zero}
-use mathlib.Core.Path.{_≡_, refl, sym, ap, ap₂, _∙_}
+use mathlib.Core.Path.{_≡_, refl, sym, ap, ap₂, subst, _∙_}
 use mathlib.Core.Bool.{Bool, true, false, cond, not, false≢true}
 use mathlib.Core.List.{List, [], _∷_, _++_, append-assoc, append-nil}
 use borrow.Author.Tests.{eqb-true, lt-ltb}
@@ -12,7 +12,7 @@ use lib.Dec.{eqb, ltb}
 use Rattle.protocol.specs.Numbers.{DLE, STX, ETX, maxContent}
 use Rattle.protocol.specs.Frame.{Received, double, wrap, frame, contentOf, judge, received, Sized}
 use Rattle.protocol.specs.Stream.{Stream, outside, inside, begin, Event, nothing, closed, droppedPair, droppedLong, Step, on, ends, collect, step, after, HandedUp, handUp, handedUpFrom, handedUp}
-use Rattle.protocol.proofs.FrameLaws.{double-dle, double-lone, length-contentOf, judge-contentOf}
+use Rattle.protocol.proofs.FrameLaws.{double-nil, double-dle, double-lone, length-contentOf, judge-contentOf}
 
 -- Bytes joined: the state, and what is handed up.
 pub after-append : (s : Stream) (x y : List ℕ) → after s (x ++ y) ≡ after (after s x) y
@@ -93,6 +93,16 @@ after-wrap s c =
 pub after-frame : (s : Stream) (a : ℕ) (d : List ℕ) → after s (frame a d) ≡ begin
 unfolding frame
 after-frame s a d = after-wrap s (contentOf a d)
+
+double-append : (c d : List ℕ) → double (c ++ d) ≡ double c ++ double d
+unfolding double
+double-append [] d = refl
+double-append (b ∷ c) d = go (eqb b DLE) (double-append c d)
+  where
+    go : (t : Bool) → double (c ++ d) ≡ double c ++ double d
+      → cond t (DLE ∷ DLE ∷ double (c ++ d)) (b ∷ double (c ++ d)) ≡ cond t (DLE ∷ DLE ∷ double c) (b ∷ double c) ++ double d
+    go true ih = ap (λ l. DLE ∷ DLE ∷ l) ih
+    go false ih = ap (λ l. b ∷ l) ih
 
 -- Inside a frame that has room, doubled content is collected and nothing is handed up.
 pub record Collected (a : ℕ) (c d : List ℕ) (n : ℕ) : Type 0 where
@@ -197,8 +207,126 @@ Ends (inside true c) bs = (front : List ℕ) × (bs ≡ front ++ (DLE ∷ STX �
 snoc : (bs front tail : List ℕ) (b : ℕ) → bs ≡ front ++ tail → bs ++ b ∷ [] ≡ front ++ (tail ++ b ∷ [])
 snoc bs front tail b e = ap (λ l. l ++ b ∷ []) e ∙ append-assoc front tail (b ∷ [])
 
-double-snoc : (c : List ℕ) (b : ℕ) → double (c ++ b ∷ []) ≡ double c ++ double (b ∷ [])
-double-snoc c b = ?
+collect-ends : (c front bs : List ℕ) (b : ℕ) → bs ≡ front ++ (DLE ∷ STX ∷ double (c ++ b ∷ [])) → Ends (collect c b .after) bs
+unfolding collect
+collect-ends c front bs b h = go (ltb (length c) maxContent)
+  where
+    go : (t : Bool) → Ends (cond t (on (inside false (c ++ b ∷ []))) (ends droppedLong) .after) bs
+    go true = (front, h)
+    go false = tt
+
+-- The end of the bytes read, one byte on: by where the reader stood, and by the tests on the byte.
+outside-ends : (bs : List ℕ) (b : ℕ) → Ends (outside (eqb b DLE)) (bs ++ b ∷ [])
+outside-ends bs b = go (eqb b DLE) refl
+  where
+    go : (t : Bool) → eqb b DLE ≡ t → Ends (outside t) (bs ++ b ∷ [])
+    go true e = (bs, ap (λ x. bs ++ x ∷ []) (eqb-true b DLE e))
+    go false e = tt
+
+opening-ends : (bs front : List ℕ) (b : ℕ) → bs ≡ front ++ DLE ∷ [] → Ends (step (outside true) b .after) (bs ++ b ∷ [])
+unfolding step
+opening-ends bs front b h = go (eqb b STX) refl
+  where
+    go : (t : Bool) → eqb b STX ≡ t → Ends (cond t (inside false []) (outside false)) (bs ++ b ∷ [])
+    go true e =
+        (front,
+        snoc bs front (DLE ∷ []) b h
+        ∙ ap₂ (λ x l. front ++ (DLE ∷ x ∷ l)) (eqb-true b STX e) (sym double-nil))
+    go false e = tt
+
+lone-ends : (c bs front : List ℕ) (b : ℕ) → bs ≡ front ++ (DLE ∷ STX ∷ double c) → Ends (step (inside false c) b .after) (bs ++ b ∷ [])
+unfolding step
+lone-ends c bs front b h = go (eqb b DLE) refl
+  where
+    more : bs ++ b ∷ [] ≡ front ++ (DLE ∷ STX ∷ (double c ++ b ∷ []))
+    more = snoc bs front (DLE ∷ STX ∷ double c) b h
+    go : (t : Bool) → eqb b DLE ≡ t → Ends (cond t (on (inside true c)) (collect c b) .after) (bs ++ b ∷ [])
+    go true e = (front, more ∙ ap (λ x. front ++ (DLE ∷ STX ∷ (double c ++ x ∷ []))) (eqb-true b DLE e))
+    go false e = collect-ends c front (bs ++ b ∷ []) b (more ∙ ap (λ l. front ++ (DLE ∷ STX ∷ l)) (sym (double-append c (b ∷ []) ∙ ap (λ l. double c ++ l) (double-lone b [] e ∙ ap (λ l. b ∷ l) double-nil))))
+
+pair-ends : (c bs front : List ℕ) (b : ℕ) → bs ≡ front ++ (DLE ∷ STX ∷ (double c ++ DLE ∷ [])) → Ends (step (inside true c) b .after) (bs ++ b ∷ [])
+unfolding step
+pair-ends c bs front b h = go (eqb b DLE) refl (eqb b ETX) (eqb b STX) refl
+  where
+    more : bs ++ b ∷ [] ≡ front ++ (DLE ∷ STX ∷ (double c ++ DLE ∷ b ∷ []))
+    more = snoc bs front (DLE ∷ STX ∷ (double c ++ DLE ∷ [])) b h ∙ ap (λ l. front ++ (DLE ∷ STX ∷ l)) (append-assoc (double c) (DLE ∷ []) (b ∷ []))
+    go : (t : Bool) → eqb b DLE ≡ t → (u v : Bool) → eqb b STX ≡ v
+      → Ends (cond t (collect c DLE) (cond u (ends (closed c)) (cond v (on (inside false [])) (ends droppedPair))) .after) (bs ++ b ∷ [])
+    go true e u v g =
+        collect-ends c front (bs ++ b ∷ []) DLE
+        (more
+        ∙ ap (λ x. front ++ (DLE ∷ STX ∷ (double c ++ DLE ∷ x ∷ []))) (eqb-true b DLE e)
+        ∙ ap (λ l. front ++ (DLE ∷ STX ∷ l)) (sym (double-append c (DLE ∷ []) ∙ ap (λ l. double c ++ l) (double-dle DLE [] refl ∙ ap (λ l. DLE ∷ DLE ∷ l) double-nil))))
+    go false e true v g = tt
+    go false e false true g =
+        (front ++ (DLE ∷ STX ∷ double c),
+        more
+        ∙ ap (λ x. front ++ (DLE ∷ STX ∷ (double c ++ DLE ∷ x ∷ []))) (eqb-true b STX g)
+        ∙ sym (append-assoc front (DLE ∷ STX ∷ double c) (DLE ∷ STX ∷ []))
+        ∙ ap (λ l. (front ++ (DLE ∷ STX ∷ double c)) ++ (DLE ∷ STX ∷ l)) (sym double-nil))
+    go false e false false g = tt
 
 ends-step : (s : Stream) (bs : List ℕ) (b : ℕ) → Ends s bs → Ends (step s b .after) (bs ++ b ∷ [])
-ends-step s bs b h = ?
+unfolding step
+ends-step (outside false) bs b h = outside-ends bs b
+ends-step (outside true) bs b h = opening-ends bs (h .0) b (h .1)
+ends-step (inside false c) bs b h = lone-ends c bs (h .0) b (h .1)
+ends-step (inside true c) bs b h = pair-ends c bs (h .0) b (h .1)
+
+ends-after : (s : Stream) (bs more : List ℕ) → Ends s bs → Ends (after s more) (bs ++ more)
+unfolding after
+ends-after s bs [] h = rw (append-nil bs) h
+ends-after s bs (b ∷ more) h = rw append-assoc at (ends-after (step s b .after) (bs ++ b ∷ []) more (ends-step s bs b h))
+
+-- The bytes of a stream end as the state that they lead to says.
+pub bytes-end : (bs : List ℕ) → Ends (after begin bs) bs
+bytes-end bs = ends-after begin [] bs tt
+
+-- Events that close no frame.
+abbrev closes : Event → Bool
+closes nothing = false
+closes (closed c) = true
+closes droppedPair = false
+closes droppedLong = false
+
+not-closing : (e : Event) (c : List ℕ) → closes e ≡ false → e ≡ closed c → ⊥
+not-closing e c f h = false≢true (sym f ∙ ap closes h)
+
+collect-open : (c : List ℕ) (b : ℕ) → closes (collect c b .event) ≡ false
+unfolding collect
+collect-open c b = go (ltb (length c) maxContent)
+  where
+    go : (t : Bool) → closes (cond t (on (inside false (c ++ b ∷ []))) (ends droppedLong) .event) ≡ false
+    go true = refl
+    go false = refl
+
+-- The byte that closes a frame: a 10h waited inside, the byte is 03, and the content is what was collected.
+closing : (s : Stream) (b : ℕ) (c : List ℕ) → step s b .event ≡ closed c → (s ≡ inside true c) × (b ≡ ETX)
+unfolding step
+closing (outside false) b c h = absurd (not-closing nothing c refl h)
+closing (outside true) b c h = absurd (not-closing nothing c refl h)
+closing (inside false d) b c h = absurd (not-closing _ c (go (eqb b DLE)) h)
+  where
+    go : (t : Bool) → closes (cond t (on (inside true d)) (collect d b) .event) ≡ false
+    go true = refl
+    go false = collect-open d b
+closing (inside true d) b c h = go (eqb b DLE) (eqb b ETX) refl (eqb b STX) h
+  where
+    go : (t u : Bool) → eqb b ETX ≡ u → (v : Bool)
+      → cond t (collect d DLE) (cond u (ends (closed d)) (cond v (on (inside false [])) (ends droppedPair))) .event ≡ closed c
+      → (inside true d ≡ inside true c) × (b ≡ ETX)
+    go true u e v h = absurd (not-closing (collect d DLE .event) c (collect-open d DLE) h)
+    go false true e v h = (cc, eqb-true b ETX e)
+    go false false e true h = absurd (not-closing nothing c refl h)
+    go false false e false h = absurd (not-closing droppedPair c refl h)
+
+-- Each closed frame's content, doubled between 10 02 and 10 03, stands unbroken at the end of the bytes read.
+pub closed-stands : (bs : List ℕ) (b : ℕ) (c : List ℕ) → step (after begin bs) b .event ≡ closed c
+  → (front : List ℕ) × (bs ++ b ∷ [] ≡ front ++ wrap c)
+unfolding wrap
+closed-stands bs b c h =
+    let p : (after begin bs ≡ inside true c) × (b ≡ ETX) = closing (after begin bs) b c h in
+    let e : (front : List ℕ) × (bs ≡ front ++ (DLE ∷ STX ∷ (double c ++ DLE ∷ []))) = subst (λ s. Ends s bs) (p .0) (bytes-end bs) in
+    (e .0,
+    snoc bs (e .0) (DLE ∷ STX ∷ (double c ++ DLE ∷ [])) b (e .1)
+    ∙ ap (λ l. e .0 ++ (DLE ∷ STX ∷ l)) (append-assoc (double c) (DLE ∷ []) (b ∷ []) ∙ ap (λ x. double c ++ DLE ∷ x ∷ []) (p .1)))
