@@ -1,4 +1,6 @@
 -- What is proved of the definitions of specs/.
+pub mod ListLaws
 pub mod FrameLaws
 pub mod StreamLaws
+pub mod RequestLaws
 pub mod Marked

@@ -1,5 +1,5 @@
 -- Document 01, "Requests and replies": what a request is, how it is written, how data is read as one.
-use Prim.Native.Nat.{ℕ, suc, _+_, _-_}
+use Prim.Native.Nat.{ℕ, suc, _-_}
 use mathlib.Core.Bool.{Bool, true, false, cond, _&&_}
 use mathlib.Core.List.{List, [], _∷_, _++_}
 use mathlib.Core.Path.{_≡_}
@@ -107,8 +107,8 @@ readIndexed op value bs =
 -- "path, index, 00, value": the first zero ends path and index, and exactly four bytes follow it.
 unfoldable pub readValued : ℕ → List ℕ → Asked
 readValued op bs =
-    cond (eqb (length (drop (beforeZero bs + 1) bs)) 4)
-    (readIndexed op (number (drop (beforeZero bs + 1) bs)) (take (beforeZero bs) bs))
+    cond (eqb (length (drop (suc (beforeZero bs)) bs)) 4)
+    (readIndexed op (number (drop (suc (beforeZero bs)) bs)) (take (beforeZero bs) bs))
     (declined badParameter)
 
 -- The bytes after B4 and the op.
