@@ -64,9 +64,6 @@ bytes-left x y all i = go (decLt i (length x))
     go (yes h) = rw (List·getD-append x y 0 i h) at (all i)
     go (no h) = rw (List·getD-eq-default x 0 {n = i} (omega (arith, h))) (omega arith)
 
-pub bytes-tail : (b : ℕ) (bs : List ℕ) → Bytes (b ∷ bs) → Bytes bs
-bytes-tail b bs all i = all (suc i)
-
 pub bytes-cons : (b : ℕ) (bs : List ℕ) → b < byteEnd → Bytes bs → Bytes (b ∷ bs)
 bytes-cons b bs h all zero = h
 bytes-cons b bs h all (suc i) = all i

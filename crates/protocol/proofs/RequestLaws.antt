@@ -4,6 +4,7 @@ use Prim.Native.Nat.{ℕ, zero, suc, _+_, _-_, _<_, _≤_}
 use native.Mathlib.Omega.{arith}
 use native.Mathlib.Nat.{not-suc-le-zero}
 use native.Mathlib.Numerals.{add-one}
+use mathlib.Core.Logic.{_↔_}
 use mathlib.Core.Path.{_≡_, refl, sym, ap, ap₂, subst, _∙_}
 use mathlib.Core.Bool.{Bool, true, false, cond, _&&_, false≢true, and-eq-true-iff}
 use mathlib.Core.List.{List, [], _∷_, _++_, append-assoc, append-nil}
@@ -11,12 +12,12 @@ use borrow.Author.Tests.{eqb-true, eqb-false, ltb-true, ltb-false, leb-true, leb
 use lib.ListN.{length, getD, take, drop, length-append, length-take, length-drop}
 use lib.Seq.{take-at, drop-append-add, getD-at}
 use lib.Dec.{eqb, ltb, leb}
-use Rattle.protocol.specs.Numbers.{done, unknownCommand, badParameter, PDI, opDetect, opNode, opRead, opWriteExtended, maxDepth, maxData, byteEnd, wordEnd}
+use Rattle.protocol.specs.Numbers.{done, unknownCommand, badParameter, DLE, ETX, PDI, opDetect, opNode, opRead, opWriteExtended, maxDepth, maxData, byteEnd, wordEnd}
 use Rattle.protocol.specs.Bytes.{Bytes, every, word, number}
-use Rattle.protocol.specs.Frame.{Received, frame, datagram, readFrame, readDatagram, received, Sized}
+use Rattle.protocol.specs.Frame.{Received, double, checksum, contentOf, wrap, frame, datagram, readFrame, readDatagram, received, Sized}
 use Rattle.protocol.specs.Request.{Request, nonzero, isPath, asksPath, asksIndex, asksValue, pathFits, indexFits, valueFits, fits, allowance, Allowed, indexPart, valuePart, dataOf, serialForm, udpForm, Asked, noRequest, declined, askedIf, beforeZero, readIndexed, readValued, readShape, readRequest, readPayload, readSerial, readUdp}
-use Rattle.protocol.proofs.ListLaws.{init-last, number-word, word-of-four, bytes-drop, bytes-left, bytes-tail}
-use Rattle.protocol.proofs.FrameLaws.{readFrame-frame, readFrame-only, frame-injective, readDatagram-datagram, readDatagram-only, datagram-injective, Written}
+use Rattle.protocol.proofs.ListLaws.{init-last, number-word, word-of-four, bytes-drop, bytes-left, bytes-cons}
+use Rattle.protocol.proofs.FrameLaws.{double-dle, double-lone, readFrame-frame, readFrame-only, frame-injective, readDatagram-datagram, readDatagram-only, datagram-injective, Written}
 
 -- What fits the table, part by part.
 record Fit (r : Request) : Type 0 where
@@ -365,3 +366,90 @@ dataOf-size r h =
 pub dataOf-sized : (r : Request) → Allowed r → Sized (dataOf r)
 dataOf-sized r h = record { least = omega (arith, dataOf-size r h); most = omega (arith, dataOf-size r h) }
 
+
+-- Serial and UDP alike: a form of data, and a reading of strings that gives back exactly what was written in that form.
+record Carrier (form : List ℕ → List ℕ) (reads : List ℕ → Received) : Type 0 where
+  back : (d : List ℕ) → Sized d → reads (form d) ≡ received d
+  only : (s : List ℕ) → reads s .number ≡ done → Written form s (reads s .payload)
+  bytes : (d : List ℕ) → Bytes (form d) → Bytes d
+
+readPayload-by : (p : Received) (t : Bool) → eqb (p .number) done ≡ t → readPayload p ≡ cond t (readRequest (p .payload)) (declined (p .number))
+unfolding readPayload
+readPayload-by p t e = rw e
+
+module _ (form : List ℕ → List ℕ) (reads : List ℕ → Received) (carrier : Carrier form reads) where
+  carried-back : (r : Request) → Allowed r → readPayload (reads (form (dataOf r))) ≡ asked r
+  unfolding readPayload
+  carried-back r h = ap readPayload (carrier .back (dataOf r) (dataOf-sized r h)) ∙ readRequest-dataOf r h
+
+  carried-only : (s : List ℕ) → Bytes s → readPayload (reads s) .number ≡ done → Says (λ r. form (dataOf r)) s (readPayload (reads s))
+  carried-only s all h = go (eqb (reads s .number) done) refl
+    where
+      go : (t : Bool) → eqb (reads s .number) done ≡ t → Says (λ r. form (dataOf r)) s (readPayload (reads s))
+      go false e =
+          let n : reads s .number ≡ done = sym (ap (λ a. a .number) (readPayload-by (reads s) false e)) ∙ h in
+          absurd (eqb-false (reads s .number) done e n)
+      go true e =
+          let is : readPayload (reads s) ≡ readRequest (reads s .payload) = readPayload-by (reads s) true e in
+          let w : Written form s (reads s .payload) = carrier .only s (eqb-true (reads s .number) done e) in
+          let d : Says dataOf (reads s .payload) (readRequest (reads s .payload)) =
+                readRequest-only (reads s .payload) (carrier .bytes (reads s .payload) (subst Bytes (w .written) all)) (sym (ap (λ a. a .number) is) ∙ h) in
+          subst (Says (λ r. form (dataOf r)) s) (sym is)
+          (record { is = d .is; allowed = d .allowed; written = w .written ∙ ap form (d .written) })
+
+  exact : (s : List ℕ) → Bytes s → (r : Request) → (readPayload (reads s) ≡ asked r) ↔ (Allowed r × (s ≡ form (dataOf r)))
+  exact s all r =
+      (λ h.
+        let says : Says (λ r. form (dataOf r)) s (readPayload (reads s)) = carried-only s all (ap (λ a. a .number) h) in
+        let same : readPayload (reads s) .request ≡ r = ap (λ a. a .request) h in
+        (subst Allowed same (says .allowed), says .written ∙ ap (λ r. form (dataOf r)) same),
+      λ h. ap (λ s. readPayload (reads s)) (h .1) ∙ carried-back r (h .0))
+
+-- The data of a frame or a datagram of bytes is bytes.
+bytes-undouble : (c : List ℕ) → Bytes (double c) → Bytes c
+bytes-undouble [] all = λ i. omega arith
+bytes-undouble (b ∷ c) all = go (eqb b DLE) refl (bytes-undouble c)
+  where
+    go : (t : Bool) → eqb b DLE ≡ t → (Bytes (double c) → Bytes c) → Bytes (b ∷ c)
+    go true e ih =
+        let doubled : Bytes (DLE ∷ DLE ∷ double c) = subst Bytes (double-dle b c e) all in
+        bytes-cons b c (rw (eqb-true b DLE e) (omega arith)) (ih (λ i. doubled (suc (suc i))))
+    go false e ih =
+        let alone : Bytes (b ∷ double c) = subst Bytes (double-lone b c e) all in
+        bytes-cons b c (alone 0) (ih (λ i. alone (suc i)))
+
+frame-bytes : (a : ℕ) (d : List ℕ) → Bytes (frame a d) → Bytes d
+unfolding frame wrap contentOf
+frame-bytes a d all =
+    let content : Bytes (a ∷ (d ++ checksum (a ∷ d) ∷ [])) =
+          bytes-undouble (a ∷ (d ++ checksum (a ∷ d) ∷ [])) (bytes-left (double (a ∷ (d ++ checksum (a ∷ d) ∷ []))) (DLE ∷ ETX ∷ []) (λ i. all (suc (suc i)))) in
+    bytes-left d (checksum (a ∷ d) ∷ []) (λ i. content (suc i))
+
+serial : (a : ℕ) → Carrier (frame a) (readFrame a)
+serial a = record { back = readFrame-frame a; only = readFrame-only a; bytes = frame-bytes a }
+
+udp : Carrier datagram readDatagram
+unfolding datagram
+udp = record { back = readDatagram-datagram; only = readDatagram-only; bytes = λ d all i. all (suc (suc (suc (suc i)))) }
+
+-- Demand 3 on definitions: a string is read as r exactly when it is r's written form, serial and UDP.
+pub serial-exact : (a : ℕ) (s : List ℕ) → Bytes s → (r : Request)
+  → (readSerial a s ≡ record { number = done; request = r }) ↔ (Allowed r × (s ≡ serialForm a r))
+unfolding readSerial serialForm
+serial-exact a s all r = exact (frame a) (readFrame a) (serial a) s all r
+
+pub udp-exact : (s : List ℕ) → Bytes s → (r : Request)
+  → (readUdp s ≡ record { number = done; request = r }) ↔ (Allowed r × (s ≡ udpForm r))
+unfolding readUdp udpForm
+udp-exact s all r = exact datagram readDatagram udp s all r
+
+-- No string is the written form of two requests, nor of one for two addresses.
+pub serialForm-injective : (a a′ : ℕ) (r r′ : Request) → Allowed r → Allowed r′ → serialForm a r ≡ serialForm a′ r′ → (a ≡ a′) × (r ≡ r′)
+unfolding serialForm
+serialForm-injective a a′ r r′ h h′ e =
+    let p : (a ≡ a′) × (dataOf r ≡ dataOf r′) = frame-injective a a′ (dataOf r) (dataOf r′) e in
+    (p .0, dataOf-injective r r′ h h′ (p .1))
+
+pub udpForm-injective : (r r′ : Request) → Allowed r → Allowed r′ → udpForm r ≡ udpForm r′ → r ≡ r′
+unfolding udpForm
+udpForm-injective r r′ h h′ e = dataOf-injective r r′ h h′ (datagram-injective (dataOf r) (dataOf r′) e)
