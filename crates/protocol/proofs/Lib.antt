@@ -3,4 +3,5 @@ pub mod ListLaws
 pub mod FrameLaws
 pub mod StreamLaws
 pub mod RequestLaws
+pub mod AnswerLaws
 pub mod Marked

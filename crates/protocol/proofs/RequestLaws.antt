@@ -337,7 +337,7 @@ pub dataOf-injective : (r r′ : Request) → Allowed r → Allowed r′ → dat
 dataOf-injective r r′ h h′ e =
     ap (λ a. a .request) (sym (readRequest-dataOf r h) ∙ ap readRequest e ∙ readRequest-dataOf r′ h′)
 
-path-most : (r : Request) → fits r ≡ true → length (r .path) ≤ maxDepth
+pub path-most : (r : Request) → fits r ≡ true → length (r .path) ≤ maxDepth
 path-most r h = go (asksPath (r .op)) refl
   where
     go : (t : Bool) → asksPath (r .op) ≡ t → length (r .path) ≤ maxDepth

@@ -1,0 +1,222 @@
+-- Answers: how long a reply is, what an open probe is answered, and which cells a request changes.
+-- Assumes nothing.
+use Prim.Native.Nat.{ℕ, zero, suc, _+_, _-_, _<_, _≤_}
+use native.Mathlib.Omega.{arith}
+use native.Mathlib.Nat.{not-suc-le-zero}
+use mathlib.Core.Logic.{_⊎_, inl, inr}
+use mathlib.Core.Path.{_≡_, refl, sym, ap, ap₂, subst, _∙_}
+use mathlib.Core.Bool.{Bool, true, false, cond, _&&_, false≢true, and-eq-true-iff}
+use mathlib.Core.List.{List, [], _∷_, _++_}
+use mathlib.Core.Option.{Option, none, some}
+use borrow.Author.Tests.{eqb-true, eqb-false, ltb-true, ltb-false, leb-true, eq-eqb, ne-eqb}
+use lib.ListN.{length, drop, getD, getElem?, set, length-append, length-set}
+use lib.Seq.{getD-set-same, getD-set-other}
+use lib.Dec.{eqb, ltb, leb}
+use Rattle.protocol.specs.declared.PropertyIndex.{PropertyIndex}
+use Rattle.protocol.specs.Numbers.{done, unknownCommand, disabled, badParameter, noReading, PDI, NAK, opDetect, opNode, opRecord, opRead, opWrite, opWriteExtended, maxData, maxDepth, maxName, maxTexts, maxNodes, maxProperties}
+use Rattle.protocol.specs.Bytes.{every, half, word, text, texts}
+use Rattle.protocol.specs.Frame.{Sized}
+use Rattle.protocol.specs.Request.{Request, Asked, asksIndex, asksValue, fits, askedIf, declined, beforeZero, readIndexed, readValued, readShape, readRequest}
+use Rattle.protocol.specs.Tree.{Node, Property, Tree, Cell, isLive, isText, isName, kindSound, liveSound, widthsSound, placesFrom, numbered, propertiesOf, propertyOf, nodeAt, nodeIn, propertyIn, cellIn, cellsSound, depthsSound, parentsSound, optionsSound, propertySound, nodesSound, propertiesSound, sound, readable}
+use Rattle.protocol.specs.Answer.{Outcome, saved, taken, readOnly, outOfRange, outcome, reason, writeNumber, stored, cellsAfter, echo, echoIndexed, nodeReply, recordReply, readReply, writeReply, Answer, plain, refuse, refusalCode, onRead, onWrite, onProperty, ifProperty, ifNode, perform, ifAsked, answer}
+use Rattle.protocol.proofs.RequestLaws.{path-most}
+
+-- A fact of both answers of a test is one of its outcome.
+if-both : {A : Type 0} (P : A → Type 0) (t : Bool) {x y : A} → P x → P y → P (cond t x y)
+if-both P true p q = p
+if-both P false p q = q
+
+-- What is read as a request fits the table.
+pub record Fits (a : Asked) : Type 0 where
+  pub fit : a .number ≡ done → fits (a .request) ≡ true
+
+declined-fits : (n : ℕ) → ltb 0 n ≡ true → Fits (declined n)
+declined-fits n h = record { fit = λ e. absurd (omega (arith, ltb-true 0 n h, e)) }
+
+askedIf-fits : (r : Request) → Fits (askedIf r)
+unfolding askedIf
+askedIf-fits r = go (fits r) refl
+  where
+    go : (t : Bool) → fits r ≡ t → Fits (cond t (record { number = done; request = r }) (declined badParameter))
+    go true e = record { fit = λ h. e }
+    go false e = declined-fits badParameter refl
+
+readIndexed-fits : (op v : ℕ) (bs : List ℕ) → Fits (readIndexed op v bs)
+unfolding readIndexed
+readIndexed-fits op v bs = askedIf-fits _
+
+readValued-fits : (op : ℕ) (bs : List ℕ) → Fits (readValued op bs)
+unfolding readValued
+readValued-fits op bs =
+    if-both Fits (eqb (length (drop (suc (beforeZero bs)) bs)) 4) (readIndexed-fits op _ _) (declined-fits badParameter refl)
+
+readShape-fits : (op : ℕ) (bs : List ℕ) → Fits (readShape op bs)
+unfolding readShape
+readShape-fits op bs =
+    if-both Fits (asksValue op)
+    (readValued-fits op bs)
+    (if-both Fits (asksIndex op) (readIndexed-fits op 0 bs) (askedIf-fits _))
+
+pub readRequest-fits : (bs : List ℕ) → Fits (readRequest bs)
+unfolding readRequest
+readRequest-fits [] = declined-fits badParameter refl
+readRequest-fits (c ∷ []) = if-both Fits (eqb c PDI) (declined-fits badParameter refl) (declined-fits unknownCommand refl)
+readRequest-fits (c ∷ op ∷ bs) =
+    if-both Fits (eqb c PDI && leb op opWriteExtended) (readShape-fits op bs) (declined-fits unknownCommand refl)
+
+-- The lengths of a reply's parts.
+length-text : (s : List ℕ) → length (text s) ≡ length s + 1
+unfolding text
+length-text s = length-append s (0 ∷ [])
+
+-- What an entry of a list has that every entry and the default have.
+every-at : {A : Type 0} (f : A → Bool) (xs : List A) (d : A) → every f xs ≡ true → f d ≡ true → (k : ℕ) → f (getD xs k d) ≡ true
+unfolding every
+every-at f [] d h e k = e
+every-at f (x ∷ xs) d h e zero = and-eq-true-iff (f x) (every f xs) .0 h .0
+every-at f (x ∷ xs) d h e (suc k) = every-at f xs d (and-eq-true-iff (f x) (every f xs) .0 h .1) e k
+
+every-weaker : {A : Type 0} (f g : A → Bool) → ((x : A) → f x ≡ true → g x ≡ true) → (xs : List A) → every f xs ≡ true → every g xs ≡ true
+unfolding every
+every-weaker f g w [] h = refl
+every-weaker f g w (x ∷ xs) h =
+    let p : (f x ≡ true) × (every f xs ≡ true) = and-eq-true-iff (f x) (every f xs) .0 h in
+    and-eq-true-iff (g x) (every g xs) .1 (w x (p .0), every-weaker f g w xs (p .1))
+
+name-short : (s : List ℕ) → isName s ≡ true → length s ≤ maxName
+unfolding isName
+name-short s h = leb-true (length s) maxName (and-eq-true-iff (leb (length s) maxName) (isText s) .0 h .0)
+
+options-short : (ss : List (List ℕ)) → optionsSound ss ≡ true → length (texts ss) ≤ maxTexts
+unfolding optionsSound
+options-short ss h = leb-true (length (texts ss)) maxTexts (and-eq-true-iff (every isText ss) (leb (length (texts ss)) maxTexts) .0 h .1)
+
+-- The texts of a sound tree are short, wherever they stand.
+abbrev shortTexts : Property → Bool
+shortTexts p = isName (p .label) && optionsSound (p .options)
+
+property-texts : (nodes : ℕ) (p : Property) → propertySound nodes p ≡ true → shortTexts p ≡ true
+unfolding propertySound
+property-texts nodes p h = 
+    and-eq-true-iff (kindSound p) (shortTexts p) .0
+    (and-eq-true-iff (liveSound p) _ .0 (and-eq-true-iff (widthsSound p) _ .0 (and-eq-true-iff (ltb (p .node) nodes) _ .0 h .1) .1) .1) .1
+
+record Texts (t : Tree) : Type 0 where
+  names : (place : ℕ) → length (nodeIn t place .name) ≤ maxName
+  labels : (place : ℕ) → length (propertyIn t place .label) ≤ maxName
+  options : (place : ℕ) → length (texts (propertyIn t place .options)) ≤ maxTexts
+
+texts-short : (t : Tree) → sound t ≡ true → Texts t
+unfolding sound nodesSound propertiesSound isName optionsSound every texts
+texts-short t h =
+    let both : (nodesSound (t .nodes) ≡ true) × (propertiesSound t ≡ true) = and-eq-true-iff (nodesSound (t .nodes)) (propertiesSound t) .0 h in
+    let names : every (λ n. isName (n .name)) (t .nodes) ≡ true =
+          and-eq-true-iff (depthsSound (t .nodes)) _ .0
+          (and-eq-true-iff (parentsSound (t .nodes)) _ .0 (and-eq-true-iff (leb (length (t .nodes)) maxNodes) _ .0 (both .0) .1) .1) .1 in
+    let short : every shortTexts (t .properties) ≡ true =
+          every-weaker (propertySound (length (t .nodes))) shortTexts (property-texts (length (t .nodes))) (t .properties)
+          (and-eq-true-iff (leb (length (t .properties)) maxProperties) _ .0 (both .1) .1) in
+    let at : (place : ℕ) → (isName (propertyIn t place .label) ≡ true) × (optionsSound (propertyIn t place .options) ≡ true) =
+          λ place. and-eq-true-iff (isName (propertyIn t place .label)) (optionsSound (propertyIn t place .options)) .0 (every-at shortTexts (t .properties) _ short refl place) in
+    record {
+      names = λ place. name-short (nodeIn t place .name) (every-at (λ n. isName (n .name)) (t .nodes) _ names refl place);
+      labels = λ place. name-short (propertyIn t place .label) (at place .0);
+      options = λ place. options-short (propertyIn t place .options) (at place .1)
+    }
+
+reason-short : (o : Outcome) → length (reason o) ≤ 9
+unfolding reason
+reason-short saved = omega arith
+reason-short taken = omega arith
+reason-short readOnly = omega arith
+reason-short outOfRange = omega arith
+
+ending-short : (t : Bool) (o : Outcome) → length (cond t [] (text (reason o))) ≤ 10
+ending-short true o = omega arith
+ending-short false o = omega (arith, length-text (reason o), reason-short o)
+
+-- Replies of 1 to 256 bytes: what stands before a reply's own bytes takes at most 19.
+module _ (r : Request) (path : length (r .path) ≤ maxDepth) where
+  echo-size : (more : List ℕ) → length more ≤ 200 → Sized (echo r ++ more)
+  echo-size more h =
+      record {
+        least = omega (arith, length-append (echo r) more);
+        most = omega (arith, length-append (echo r) more)
+      }
+
+  indexed-size : (more : List ℕ) → length more ≤ 200 → Sized (echoIndexed r ++ more)
+  indexed-size more h =
+      record {
+        least = omega (arith, length-append (echoIndexed r) more, length-append (echo r) (r .index ∷ []));
+        most = omega (arith, length-append (echoIndexed r) more, length-append (echo r) (r .index ∷ []))
+      }
+
+  node-size : (t : Tree) → Texts t → (place : ℕ) → Sized (nodeReply t place r)
+  unfolding nodeReply
+  node-size t short place = echo-size _ (omega (arith, short .names place, length-text (nodeIn t place .name)))
+
+  record-size : (t : Tree) → Texts t → (place : ℕ) → Sized (recordReply (propertyIn t place) r)
+  unfolding recordReply word half
+  record-size t short place =
+      let p : Property = propertyIn t place in
+      indexed-size _ (omega (arith, short .labels place, short .options place, length-text (p .label), length-append (text (p .label)) (texts (p .options))))
+
+  read-size : (c : Cell) → Sized (readReply c r)
+  unfolding readReply word
+  read-size c = indexed-size _ (omega arith)
+
+  write-size : (o : Outcome) → Sized (writeReply o r)
+  unfolding writeReply word
+  write-size o = indexed-size _ (omega (arith, ending-short (eqb (r .op) opWrite) o))
+
+-- An answer whose reply has 1 to 256 bytes.
+pub record Replies (a : Answer) : Type 0 where
+  pub size : Sized (a .reply)
+
+plain-replies : (cs : List Cell) (n : ℕ) (bs : List ℕ) → Sized bs → Replies (plain cs n bs)
+plain-replies cs n bs h = record { size = h }
+
+refuse-replies : (cs : List Cell) (n : ℕ) → Replies (refuse cs n)
+refuse-replies cs n = record { size = record { least = omega arith; most = omega arith } }
+
+module _ (t : Tree) (cs : List Cell) (r : Request) (short : Texts t) (path : length (r .path) ≤ maxDepth) where
+  property-replies : (place : ℕ) → Replies (onProperty t cs r place)
+  unfolding onProperty onRead onWrite
+  property-replies place =
+      if-both Replies (eqb (r .op) opRecord)
+      (plain-replies cs done _ (record-size r path t short place))
+      (if-both Replies (eqb (r .op) opRead)
+      (if-both Replies (readable (propertyIn t place) (cellIn cs place))
+      (plain-replies cs done _ (read-size r path (cellIn cs place)))
+      (refuse-replies cs noReading))
+      (record { size = write-size r path (outcome (propertyIn t place) (r .value)) }))
+
+  ifProperty-replies : (o : Option ℕ) → Replies (ifProperty t cs r o)
+  unfolding ifProperty
+  ifProperty-replies none = refuse-replies cs badParameter
+  ifProperty-replies (some place) = property-replies place
+
+  ifNode-replies : (o : Option ℕ) → Replies (ifNode t cs r o)
+  unfolding ifNode
+  ifNode-replies none = refuse-replies cs badParameter
+  ifNode-replies (some place) =
+      if-both Replies (eqb (r .op) opNode)
+      (plain-replies cs done _ (node-size r path t short place))
+      (ifProperty-replies (propertyOf t place (record { 0 = r .index })))
+
+  perform-replies : Replies (perform t cs r)
+  unfolding perform
+  perform-replies =
+      if-both Replies (eqb (r .op) opDetect)
+      (plain-replies cs done _ (record { least = omega arith; most = omega arith }))
+      (ifNode-replies (nodeAt t (r .path)))
+
+-- Every reply has 1 to 256 bytes: to any data, with host functions on or off, whatever the cells hold.
+pub reply-sized : (t : Tree) → sound t ≡ true → (cs : List Cell) (host : Bool) (bs : List ℕ) → Sized (answer t cs host bs .reply)
+unfolding answer ifAsked
+reply-sized t h cs false bs = refuse-replies cs disabled .size
+reply-sized t h cs true bs = go (eqb (readRequest bs .number) done) refl .size
+  where
+    go : (k : Bool) → eqb (readRequest bs .number) done ≡ k → Replies (cond k (perform t cs (readRequest bs .request)) (refuse cs (readRequest bs .number)))
+    go false e = refuse-replies cs (readRequest bs .number)
+    go true e = perform-replies t cs (readRequest bs .request) (texts-short t h) (path-most (readRequest bs .request) (readRequest-fits bs .fit (eqb-true (readRequest bs .number) done e)))
