@@ -7,7 +7,7 @@ use mathlib.Core.Logic.{_⊎_, inl, inr}
 use mathlib.Core.Path.{_≡_, refl, sym, ap, ap₂, subst, _∙_}
 use mathlib.Core.Bool.{Bool, true, false, cond, _&&_, false≢true, and-eq-true-iff}
 use mathlib.Core.List.{List, [], _∷_, _++_}
-use mathlib.Core.Option.{Option, none, some}
+use mathlib.Core.Option.{Option, none, some, Option·none-ne-some, Option·some-injective}
 use borrow.Author.Tests.{eqb-true, eqb-false, ltb-true, ltb-false, leb-true, eq-eqb, ne-eqb}
 use lib.ListN.{length, drop, getD, getElem?, set, length-append, length-set}
 use lib.Seq.{getD-set-same, getD-set-other}
@@ -17,7 +17,7 @@ use Rattle.protocol.specs.Numbers.{done, unknownCommand, disabled, badPa
 use Rattle.protocol.specs.Bytes.{every, half, word, text, texts}
 use Rattle.protocol.specs.Frame.{Sized}
 use Rattle.protocol.specs.Request.{Request, Asked, asksIndex, asksValue, fits, askedIf, declined, beforeZero, readIndexed, readValued, readShape, readRequest}
-use Rattle.protocol.specs.Tree.{Node, Property, Tree, Cell, isLive, isText, isName, kindSound, liveSound, widthsSound, placesFrom, numbered, propertiesOf, propertyOf, nodeAt, nodeIn, propertyIn, cellIn, cellsSound, depthsSound, parentsSound, optionsSound, propertySound, nodesSound, propertiesSound, sound, readable}
+use Rattle.protocol.specs.Tree.{Node, Property, Tree, Cell, canRead, isLive, isText, isName, kindSound, liveSound, widthsSound, placesFrom, numbered, propertiesOf, propertyOf, nodeAt, nodeIn, propertyIn, cellIn, cellsSound, depthsSound, parentsSound, optionsSound, propertySound, nodesSound, propertiesSound, sound, readable}
 use Rattle.protocol.specs.Answer.{Outcome, saved, taken, readOnly, outOfRange, outcome, reason, writeNumber, stored, cellsAfter, echo, echoIndexed, nodeReply, recordReply, readReply, writeReply, Answer, plain, refuse, refusalCode, onRead, onWrite, onProperty, ifProperty, ifNode, perform, ifAsked, answer}
 use Rattle.protocol.proofs.RequestLaws.{path-most}
 
@@ -25,6 +25,11 @@ use Rattle.protocol.proofs.RequestLaws.{path-most}
 if-both : {A : Type 0} (P : A → Type 0) (t : Bool) {x y : A} → P x → P y → P (cond t x y)
 if-both P true p q = p
 if-both P false p q = q
+
+-- The same where each answer may use how the test came out.
+if-case : {A : Type 0} (P : A → Type 0) (t : Bool) {x y : A} → (t ≡ true → P x) → (t ≡ false → P y) → P (cond t x y)
+if-case P true p q = p refl
+if-case P false p q = q refl
 
 -- What is read as a request fits the table.
 pub record Fits (a : Asked) : Type 0 where
@@ -97,7 +102,7 @@ shortTexts p = isName (p .label) && optionsSound (p .options)
 
 property-texts : (nodes : ℕ) (p : Property) → propertySound nodes p ≡ true → shortTexts p ≡ true
 unfolding propertySound
-property-texts nodes p h = 
+property-texts nodes p h =
     and-eq-true-iff (kindSound p) (shortTexts p) .0
     (and-eq-true-iff (liveSound p) _ .0 (and-eq-true-iff (widthsSound p) _ .0 (and-eq-true-iff (ltb (p .node) nodes) _ .0 h .1) .1) .1) .1
 
@@ -111,17 +116,17 @@ unfolding sound nodesSound propertiesSound isName optionsSound every texts
 texts-short t h =
     let both : (nodesSound (t .nodes) ≡ true) × (propertiesSound t ≡ true) = and-eq-true-iff (nodesSound (t .nodes)) (propertiesSound t) .0 h in
     let names : every (λ n. isName (n .name)) (t .nodes) ≡ true =
-          and-eq-true-iff (depthsSound (t .nodes)) _ .0
-          (and-eq-true-iff (parentsSound (t .nodes)) _ .0 (and-eq-true-iff (leb (length (t .nodes)) maxNodes) _ .0 (both .0) .1) .1) .1 in
+    and-eq-true-iff (depthsSound (t .nodes)) _ .0
+    (and-eq-true-iff (parentsSound (t .nodes)) _ .0 (and-eq-true-iff (leb (length (t .nodes)) maxNodes) _ .0 (both .0) .1) .1) .1 in
     let short : every shortTexts (t .properties) ≡ true =
-          every-weaker (propertySound (length (t .nodes))) shortTexts (property-texts (length (t .nodes))) (t .properties)
-          (and-eq-true-iff (leb (length (t .properties)) maxProperties) _ .0 (both .1) .1) in
+    every-weaker (propertySound (length (t .nodes))) shortTexts (property-texts (length (t .nodes))) (t .properties)
+    (and-eq-true-iff (leb (length (t .properties)) maxProperties) _ .0 (both .1) .1) in
     let at : (place : ℕ) → (isName (propertyIn t place .label) ≡ true) × (optionsSound (propertyIn t place .options) ≡ true) =
-          λ place. and-eq-true-iff (isName (propertyIn t place .label)) (optionsSound (propertyIn t place .options)) .0 (every-at shortTexts (t .properties) _ short refl place) in
+    λ place. and-eq-true-iff (isName (propertyIn t place .label)) (optionsSound (propertyIn t place .options)) .0 (every-at shortTexts (t .properties) _ short refl place) in
     record {
       names = λ place. name-short (nodeIn t place .name) (every-at (λ n. isName (n .name)) (t .nodes) _ names refl place);
       labels = λ place. name-short (propertyIn t place .label) (at place .0);
-      options = λ place. options-short (propertyIn t place .options) (at place .1)
+      options = λ place. options-short (propertyIn t place .options) (at place .1);
     }
 
 reason-short : (o : Outcome) → length (reason o) ≤ 9
@@ -141,14 +146,14 @@ module _ (r : Request) (path : length (r .path) ≤ maxDepth) where
   echo-size more h =
       record {
         least = omega (arith, length-append (echo r) more);
-        most = omega (arith, length-append (echo r) more)
+        most = omega (arith, length-append (echo r) more);
       }
 
   indexed-size : (more : List ℕ) → length more ≤ 200 → Sized (echoIndexed r ++ more)
   indexed-size more h =
       record {
         least = omega (arith, length-append (echoIndexed r) more, length-append (echo r) (r .index ∷ []));
-        most = omega (arith, length-append (echoIndexed r) more, length-append (echo r) (r .index ∷ []))
+        most = omega (arith, length-append (echoIndexed r) more, length-append (echo r) (r .index ∷ []));
       }
 
   node-size : (t : Tree) → Texts t → (place : ℕ) → Sized (nodeReply t place r)
@@ -220,3 +225,189 @@ reply-sized t h cs true bs = go (eqb (readRequest bs .number) done) refl .size
     go : (k : Bool) → eqb (readRequest bs .number) done ≡ k → Replies (cond k (perform t cs (readRequest bs .request)) (refuse cs (readRequest bs .number)))
     go false e = refuse-replies cs (readRequest bs .number)
     go true e = perform-replies t cs (readRequest bs .request) (texts-short t h) (path-most (readRequest bs .request) (readRequest-fits bs .fit (eqb-true (readRequest bs .number) done e)))
+
+-- A request that names a property: its path has a node, and the node has a property with its index, at a place.
+pub record Finds (t : Tree) (r : Request) (place : ℕ) : Type 0 where
+  pub node : ℕ
+  pub atNode : nodeAt t (r .path) ≡ some node
+  pub atProperty : propertyOf t node (record { 0 = r .index }) ≡ some place
+
+-- The places that a test picks out of a list lie within it.
+picked : {A : Type 0} (f : A → Bool) (xs : List A) (k n place : ℕ) → getElem? (placesFrom k f xs) n ≡ some place → place < k + length xs
+unfolding placesFrom
+picked f [] k n place h = absurd (Option·none-ne-some place h)
+picked f (x ∷ xs) k n place h = go (f x) n (λ m. picked f xs (suc k) m place) h
+  where
+    go : (t : Bool) (n : ℕ) → ((m : ℕ) → getElem? (placesFrom (suc k) f xs) m ≡ some place → place < suc k + length xs)
+        → getElem? (cond t (k ∷ placesFrom (suc k) f xs) (placesFrom (suc k) f xs)) n ≡ some place → place < k + suc (length xs)
+    go true zero ih h = omega (arith, Option·some-injective k place h)
+    go true (suc n) ih h = omega (arith, ih n h)
+    go false n ih h = omega (arith, ih n h)
+
+found-below : (xs : List ℕ) (index place bound : ℕ) → ((n : ℕ) → getElem? xs n ≡ some place → place < bound) → numbered xs index ≡ some place → place < bound
+unfolding numbered
+found-below xs zero place bound h e = absurd (Option·none-ne-some place e)
+found-below xs (suc n) place bound h e = h n e
+
+-- The property that a request names is in the tree.
+pub finds-below : (t : Tree) (r : Request) (place : ℕ) → Finds t r place → place < length (t .properties)
+unfolding propertiesOf
+finds-below t r place f =
+    found-below (propertiesOf t (f .node)) (r .index) place (length (t .properties))
+    (λ n e. omega (arith, picked (λ p. eqb (p .node) (f .node)) (t .properties) 0 n place e))
+    (f .atProperty)
+
+-- A request performed, where it names a property.
+finds-performs : (t : Tree) (cs : List Cell) (r : Request) (place : ℕ) → Finds t r place → opNode < r .op → perform t cs r ≡ onProperty t cs r place
+unfolding perform ifNode ifProperty
+finds-performs t cs r place f h =
+    rw (ne-eqb (r .op) opDetect (λ e. omega (arith, e, h)), f .atNode, ne-eqb (r .op) opNode (λ e. omega (arith, e, h)), f .atProperty)
+
+answer-asked : (t : Tree) (cs : List Cell) (bs : List ℕ) (r : Request) → readRequest bs ≡ record { number = done; request = r } → answer t cs true bs ≡ perform t cs r
+unfolding answer ifAsked
+answer-asked t cs bs r h = ap (ifAsked t cs) h
+
+not-readable : (p : Property) (c : Cell) → isLive p ≡ true → c .ready ≡ false → readable p c ≡ false
+unfolding readable
+not-readable p c live unready = rw (live, unready) (go (canRead p))
+  where
+    go : (t : Bool) → (t && false) ≡ false
+    go true = refl
+    go false = refl
+
+-- A live probe that is not ready is answered 58, whatever its word.
+pub open-probe : (t : Tree) (cs : List Cell) (bs : List ℕ) (r : Request) (place : ℕ)
+    → readRequest bs ≡ record { number = done; request = r } → r .op ≡ opRead → Finds t r place
+    → isLive (propertyIn t place) ≡ true → cellIn cs place .ready ≡ false
+    → answer t cs true bs ≡ plain cs noReading (NAK ∷ [])
+unfolding onProperty onRead refusalCode
+open-probe t cs bs r place h op f live unready =
+    answer-asked t cs bs r h
+    ∙ finds-performs t cs r place f (omega (arith, op))
+    ∙ rw (op, not-readable (propertyIn t place) (cellIn cs place) live unready)
+
+-- A write that is accepted: it is read as a request that names a property, and the outcome is that the value is saved.
+pub record Saves (t : Tree) (bs : List ℕ) (place value : ℕ) : Type 0 where
+  pub request : Request
+  pub asks : readRequest bs ≡ record { number = done; request = request }
+  pub writes : opRead < request .op
+  pub finds : Finds t request place
+  pub saves : outcome (propertyIn t place) value ≡ saved
+  pub sent : request .value ≡ value
+
+-- The cells after any request: as they were, or with the one setting that was written.
+pub data Changes (t : Tree) (cs : List Cell) (bs : List ℕ) (after : List Cell) : Type 0 where
+  none-changed : after ≡ cs → Changes t cs bs after
+  one-written : (place value : ℕ) → Saves t bs place value → after ≡ set cs place (stored (cellIn cs place) value) → Changes t cs bs after
+
+-- An answer to data, with such cells.
+record Leaves (t : Tree) (cs : List Cell) (bs : List ℕ) (a : Answer) : Type 0 where
+  leaves : Changes t cs bs (a .cells)
+
+kept : (t : Tree) (cs : List Cell) (bs : List ℕ) (n : ℕ) (reply : List ℕ) → Leaves t cs bs (plain cs n reply)
+kept t cs bs n reply = record { leaves = none-changed refl }
+
+module _ (t : Tree) (cs : List Cell) (bs : List ℕ) (r : Request) (asks : readRequest bs ≡ record { number = done; request = r }) where
+  write-leaves : (place : ℕ) → opRead < r .op → Finds t r place → Leaves t cs bs (onWrite cs place r (outcome (propertyIn t place) (r .value)))
+  unfolding onWrite cellsAfter
+  write-leaves place h f = go (outcome (propertyIn t place) (r .value)) refl
+    where
+      go : (o : Outcome) → outcome (propertyIn t place) (r .value) ≡ o → Leaves t cs bs (onWrite cs place r o)
+      go saved e =
+          record {
+            leaves =
+                one-written place (r .value)
+                (record { request = r; asks = asks; writes = h; finds = f; saves = e; sent = refl })
+                refl;
+          }
+      go taken e = record { leaves = none-changed refl }
+      go readOnly e = record { leaves = none-changed refl }
+      go outOfRange e = record { leaves = none-changed refl }
+
+  property-leaves : (place : ℕ) → opNode < r .op → Finds t r place → Leaves t cs bs (onProperty t cs r place)
+  unfolding onProperty onRead
+  property-leaves place h f =
+      if-case (Leaves t cs bs) (eqb (r .op) opRecord) (λ e. kept t cs bs done _)
+      (λ e. if-case (Leaves t cs bs) (eqb (r .op) opRead)
+      (λ e. if-both (Leaves t cs bs) (readable (propertyIn t place) (cellIn cs place)) (kept t cs bs done _) (kept t cs bs noReading _))
+      (λ e′. write-leaves place (omega (arith, eqb-false (r .op) opRecord e, eqb-false (r .op) opRead e′, h)) f))
+
+  ifProperty-leaves : (node : ℕ) → nodeAt t (r .path) ≡ some node → opNode < r .op → (o : Option ℕ) → propertyOf t node (record { 0 = r .index }) ≡ o → Leaves t cs bs (ifProperty t cs r o)
+  unfolding ifProperty
+  ifProperty-leaves node n h none e = kept t cs bs badParameter _
+  ifProperty-leaves node n h (some place) e = property-leaves place h (record { node = node; atNode = n; atProperty = e })
+
+  ifNode-leaves : opDetect < r .op → (o : Option ℕ) → nodeAt t (r .path) ≡ o → Leaves t cs bs (ifNode t cs r o)
+  unfolding ifNode
+  ifNode-leaves h none e = kept t cs bs badParameter _
+  ifNode-leaves h (some node) e =
+      if-case (Leaves t cs bs) (eqb (r .op) opNode) (λ q. kept t cs bs done _)
+      (λ q. ifProperty-leaves node e (omega (arith, eqb-false (r .op) opNode q, h)) (propertyOf t node (record { 0 = r .index })) refl)
+
+  perform-leaves : Leaves t cs bs (perform t cs r)
+  unfolding perform
+  perform-leaves =
+      if-case (Leaves t cs bs) (eqb (r .op) opDetect) (λ e. kept t cs bs done _)
+      (λ e. ifNode-leaves (omega (arith, eqb-false (r .op) opDetect e)) (nodeAt t (r .path)) refl)
+
+-- No request alters anything but the setting that an accepted write names.
+pub changes : (t : Tree) (cs : List Cell) (host : Bool) (bs : List ℕ) → Changes t cs bs (answer t cs host bs .cells)
+unfolding answer ifAsked
+changes t cs false bs = none-changed refl
+changes t cs true bs =
+    if-case (Leaves t cs bs) (eqb (readRequest bs .number) done)
+    (λ e. perform-leaves t cs bs (readRequest bs .request) (ap (λ n. record { number = n; request = readRequest bs .request }) (eqb-true (readRequest bs .number) done e)))
+    (λ e. kept t cs bs (readRequest bs .number) _)
+    .leaves
+
+-- An accepted write is answered with 0 and save 01, whatever the cells.
+pub write-accepted : (t : Tree) (cs : List Cell) (bs : List ℕ) (place value : ℕ) (s : Saves t bs place value)
+    → answer t cs true bs ≡ onWrite cs place (s .request) saved
+unfolding onProperty
+write-accepted t cs bs place value s =
+    let r : Request = s .request in
+    let w : opRead < r .op = s .writes in
+    let reaches : onProperty t cs r place ≡ onWrite cs place r (outcome (propertyIn t place) (r .value)) =
+    rw (ne-eqb (r .op) opRecord (λ e. omega (arith, e, w)), ne-eqb (r .op) opRead (λ e. omega (arith, e, w))) in
+    answer-asked t cs bs r (s .asks)
+    ∙ finds-performs t cs r place (s .finds) (omega (arith, w))
+    ∙ reaches
+    ∙ ap (onWrite cs place r) (ap (outcome (propertyIn t place)) (s .sent) ∙ s .saves)
+
+-- It makes the setting's cell hold the value sent.
+pub write-holds : (t : Tree) (cs : List Cell) (bs : List ℕ) (place value : ℕ) → cellsSound t cs ≡ true → Saves t bs place value
+    → cellIn (answer t cs true bs .cells) place .word ≡ value
+unfolding onWrite cellsAfter cellsSound
+write-holds t cs bs place value h s =
+    let r : Request = s .request in
+    let size : length cs ≡ length (t .properties) =
+    eqb-true (length cs) (length (t .properties)) (and-eq-true-iff (eqb (length cs) (length (t .properties))) _ .0 h .0) in
+    ap (λ a. cellIn (a .cells) place .word) (write-accepted t cs bs place value s)
+    ∙ ap (λ c. c .word)
+    (getD-set-same cs place (stored (cellIn cs place) (r .value)) _ (omega (arith, size, finds-below t r place (s .finds))))
+    ∙ s .sent
+
+saved-done : (cs : List Cell) (place : ℕ) (r : Request) → onWrite cs place r saved .number ≡ done
+unfolding onWrite writeNumber
+saved-done cs place r = refl
+
+-- Every cell that no accepted write names stays as it was.
+pub others-stay : (t : Tree) (cs : List Cell) (host : Bool) (bs : List ℕ) (k : ℕ) → ((value : ℕ) → Saves t bs k value → ⊥)
+    → cellIn (answer t cs host bs .cells) k ≡ cellIn cs k
+others-stay t cs host bs k h = go (changes t cs host bs)
+  where
+    go : Changes t cs bs (answer t cs host bs .cells) → cellIn (answer t cs host bs .cells) k ≡ cellIn cs k
+    go (none-changed e) = ap (λ l. cellIn l k) e
+    go (one-written place value s e) =
+        ap (λ l. cellIn l k) e
+        ∙ getD-set-other cs place k (stored (cellIn cs place) value) _ (λ same. h value (subst (λ p. Saves t bs p value) (sym same) s))
+
+-- Refusals 9 to 13 change no cell.
+pub refusal-keeps : (t : Tree) (cs : List Cell) (host : Bool) (bs : List ℕ) → (answer t cs host bs .number ≡ done → ⊥) → answer t cs host bs .cells ≡ cs
+unfolding answer
+refusal-keeps t cs false bs h = refl
+refusal-keeps t cs true bs h = go (changes t cs true bs)
+  where
+    go : Changes t cs bs (answer t cs true bs .cells) → answer t cs true bs .cells ≡ cs
+    go (none-changed e) = e
+    go (one-written place value s e) = absurd (h (ap (λ a. a .number) (write-accepted t cs bs place value s) ∙ saved-done cs place (s .request)))

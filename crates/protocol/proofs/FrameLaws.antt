@@ -143,7 +143,7 @@ module _ (a : ℕ) (d : List ℕ) where
   judge-contentOf h =
       let long : ltb (length (contentOf a d)) 3 ≡ false = le-ltb (length (contentOf a d)) 3 (omega (arith, length-contentOf)) in
       let summed : eqb (checksumIn (contentOf a d)) (checksum (take (length (contentOf a d) - 1) (contentOf a d))) ≡ true =
-            eq-eqb _ _ (checksumIn-contentOf ∙ sym (ap checksum summed-contentOf)) in
+      eq-eqb _ _ (checksumIn-contentOf ∙ sym (ap checksum summed-contentOf)) in
       let ours : eqb (addressIn (contentOf a d)) a ≡ true = eq-eqb _ _ addressIn-contentOf in
       rw (long, summed, ours, dataIn-contentOf)
 
@@ -173,14 +173,14 @@ good a c h s e =
     let long : 2 ≤ length c = omega arith in
     record {
       content =
-        parts c long
-        ∙ ap₂ (λ p k. p ∷ (dataIn c ++ k ∷ [])) e (s ∙ ap checksum (front c long ∙ ap (λ p. p ∷ dataIn c) e));
-      least = omega (arith, ap length (parts c long), length-append (dataIn c) (checksumIn c ∷ []))
+          parts c long
+          ∙ ap₂ (λ p k. p ∷ (dataIn c ++ k ∷ [])) e (s ∙ ap checksum (front c long ∙ ap (λ p. p ∷ dataIn c) e));
+      least = omega (arith, ap length (parts c long), length-append (dataIn c) (checksumIn c ∷ []));
     }
 
 -- `judge`, by the outcome of its tests.
 judge-by : (a : ℕ) (c : List ℕ) (t u v : Bool) → isShort c ≡ t → isSummed c ≡ u → eqb (addressIn c) a ≡ v
-  → judge a c ≡ cond t (refused tooShort) (cond u (cond v (received (dataIn c)) (refused otherAddress)) (refused badChecksum))
+    → judge a c ≡ cond t (refused tooShort) (cond u (cond v (received (dataIn c)) (refused otherAddress)) (refused badChecksum))
 unfolding judge
 judge-by a c t u v s p q = rw (s, p, q)
 
@@ -233,7 +233,7 @@ judgeWhole-only a (some c) h = go (ltb maxContent (length c)) refl
           content = c;
           is = refl;
           good = rw e (judge-only a c (sym (ap (λ r. r .number) (judgeWhole-by a c false e)) ∙ h));
-          most = ltb-false maxContent (length c) e
+          most = ltb-false maxContent (length c) e;
         }
 
 -- The test on the first two bytes.
@@ -260,11 +260,11 @@ readFrame-only a s h = go (isOpened s) refl
     go false e = absurd (never-done refl (readFrame-by a s false e) h)
     go true e =
         let w : Whole a (undouble false (drop 2 s)) (judgeWhole a (undouble false (drop 2 s)) .payload) =
-              judgeWhole-only a (undouble false (drop 2 s)) (sym (ap (λ r. r .number) (readFrame-by a s true e)) ∙ h) in
+        judgeWhole-only a (undouble false (drop 2 s)) (sym (ap (λ r. r .number) (readFrame-by a s true e)) ∙ h) in
         rw (readFrame-by a s true e)
         (record {
           written = opened s e ∙ ap (λ l. DLE ∷ STX ∷ l) (double-undouble (drop 2 s) false (w .content) (w .is)) ∙ ap wrap (w .good .content);
-          size = record { least = w .good .least; most = omega (arith, w .most, ap length (w .good .content), length-contentOf a (judgeWhole a (undouble false (drop 2 s)) .payload)) }
+          size = record { least = w .good .least; most = omega (arith, w .most, ap length (w .good .content), length-contentOf a (judgeWhole a (undouble false (drop 2 s)) .payload)) };
         })
 
 -- No string is the frame of two contents, nor of two addresses or two data.
@@ -277,9 +277,10 @@ wrap-injective c c′ h =
 pub frame-injective : (a a′ : ℕ) (d d′ : List ℕ) → frame a d ≡ frame a′ d′ → (a ≡ a′) × (d ≡ d′)
 unfolding frame
 frame-injective a a′ d d′ h =
-    let c : contentOf a d ≡ contentOf a′ d′ = wrap-injective (contentOf a d) (contentOf a′ d′) h in
-    (sym (addressIn-contentOf a d) ∙ ap addressIn c ∙ addressIn-contentOf a′ d′,
-    sym (dataIn-contentOf a d) ∙ ap dataIn c ∙ dataIn-contentOf a′ d′)
+    let c : contentOf a d ≡ contentOf a′ d′ = wrap-injective (contentOf a d) (contentOf a′ d′) h in (
+      sym (addressIn-contentOf a d) ∙ ap addressIn c ∙ addressIn-contentOf a′ d′,
+      sym (dataIn-contentOf a d) ∙ ap dataIn c ∙ dataIn-contentOf a′ d′,
+    )
 
 -- Rows 4 and 5 of data.
 pub ifSized-sized : (d : List ℕ) → Sized d → ifSized d ≡ received d
@@ -288,7 +289,7 @@ ifSized-sized d h =
     rw (ne-eqb (length d) 0 (λ e. omega (arith, h .least, e)), le-ltb maxData (length d) (h .most))
 
 ifSized-by : (d : List ℕ) (t u : Bool) → eqb (length d) 0 ≡ t → ltb maxData (length d) ≡ u
-  → ifSized d ≡ cond t (refused tooShort) (cond u (refused tooLong) (received d))
+    → ifSized d ≡ cond t (refused tooShort) (cond u (refused tooLong) (received d))
 unfolding ifSized
 ifSized-by d t u e f = rw (e, f)
 
@@ -298,9 +299,10 @@ ifSized-only d h = go (eqb (length d) 0) refl (ltb maxData (length d)) refl
     go : (t : Bool) → eqb (length d) 0 ≡ t → (u : Bool) → ltb maxData (length d) ≡ u → (ifSized d ≡ received d) × Sized d
     go true e u f = absurd (never-done refl (ifSized-by d true u e f) h)
     go false e true f = absurd (never-done refl (ifSized-by d false true e f) h)
-    go false e false f =
-        (ifSized-by d false false e f,
-        record { least = omega (arith, eqb-false (length d) 0 e); most = ltb-false maxData (length d) f })
+    go false e false f = (
+      ifSized-by d false false e f,
+      record { least = omega (arith, eqb-false (length d) 0 e); most = ltb-false maxData (length d) f },
+    )
 
 -- Datagrams: the same of four zeros and the data.
 pub readDatagram-datagram : (d : List ℕ) → Sized d → readDatagram (datagram d) ≡ received d
@@ -332,7 +334,7 @@ readDatagram-only s h = go (fourZeros s) refl
     go false e = absurd (never-done refl (readDatagram-by s false e) h)
     go true e =
         let p : (ifSized (drop 4 s) ≡ received (drop 4 s)) × Sized (drop 4 s) =
-              ifSized-only (drop 4 s) (sym (ap (λ r. r .number) (readDatagram-by s true e)) ∙ h) in
+        ifSized-only (drop 4 s) (sym (ap (λ r. r .number) (readDatagram-by s true e)) ∙ h) in
         rw (readDatagram-by s true e ∙ p .0) (record { written = zeros s e; size = p .1 })
 
 pub datagram-injective : (d d′ : List ℕ) → datagram d ≡ datagram d′ → d ≡ d′

@@ -59,7 +59,7 @@ zero-parts [] h = absurd (not-suc-le-zero h)
 zero-parts (b ∷ bs) h = go (eqb b 0) refl (zero-parts bs)
   where
     go : (t : Bool) → eqb b 0 ≡ t → (beforeZero bs < length bs → bs ≡ take (beforeZero bs) bs ++ 0 ∷ drop (suc (beforeZero bs)) bs)
-      → b ∷ bs ≡ take (beforeZero (b ∷ bs)) (b ∷ bs) ++ 0 ∷ drop (suc (beforeZero (b ∷ bs))) (b ∷ bs)
+        → b ∷ bs ≡ take (beforeZero (b ∷ bs)) (b ∷ bs) ++ 0 ∷ drop (suc (beforeZero (b ∷ bs))) (b ∷ bs)
     go true e ih = rw e (ap (λ x. x ∷ bs) (eqb-true b 0 e))
     go false e ih =
         let k : suc (beforeZero bs) < length (b ∷ bs) = rw e at h in
@@ -135,7 +135,7 @@ asks-index : (op : ℕ) → asksValue op ≡ true → asksIndex op ≡ true
 asks-index op h = lt-ltb opNode op (omega (arith, ltb-true opRead op h))
 
 value-shape : (op : ℕ) (bs front back : List ℕ) → asksValue op ≡ true → bs ≡ front ++ 0 ∷ back → word (number back) ≡ back
-  → fits (onIndex op (number back) front) ≡ true → Shape op bs (onIndex op (number back) front)
+    → fits (onIndex op (number back) front) ≡ true → Shape op bs (onIndex op (number back) front)
 value-shape op bs front back v parted whole h =
     let i : asksIndex op ≡ true = asks-index op v in
     let split : front ≡ take (length front - 1) front ++ getD front (length front - 1) 0 ∷ [] = index-bytes op (number back) front i h in
@@ -143,10 +143,10 @@ value-shape op bs front back v parted whole h =
       same = refl;
       rest = h;
       bytes =
-        parted
-        ∙ ap₂ (λ x y. x ++ 0 ∷ y) split (sym whole)
-        ∙ append-assoc (take (length front - 1) front) (getD front (length front - 1) 0 ∷ []) (0 ∷ word (number back))
-        ∙ rw (i, v)
+          parted
+          ∙ ap₂ (λ x y. x ++ 0 ∷ y) split (sym whole)
+          ∙ append-assoc (take (length front - 1) front) (getD front (length front - 1) 0 ∷ []) (0 ∷ word (number back))
+          ∙ rw (i, v);
     }
 
 -- The bytes after an op, read.
@@ -160,7 +160,7 @@ read op bs r a e h shape =
     rw (e ∙ p .0) (record { is = refl; shape = shape (p .1) })
 
 readValued-by : (op : ℕ) (bs : List ℕ) (t : Bool) → eqb (length (drop (suc (beforeZero bs)) bs)) 4 ≡ t
-  → readValued op bs ≡ cond t (askedIf (onIndex op (number (drop (suc (beforeZero bs)) bs)) (take (beforeZero bs) bs))) (declined badParameter)
+    → readValued op bs ≡ cond t (askedIf (onIndex op (number (drop (suc (beforeZero bs)) bs)) (take (beforeZero bs) bs))) (declined badParameter)
 unfolding readValued readIndexed
 readValued-by op bs t e = rw e
 
@@ -169,8 +169,10 @@ readValued-only op bs all v h = go (eqb (length back) 4) refl
   where
     back : List ℕ
     back = drop (suc (beforeZero bs)) bs
+
     front : List ℕ
     front = take (beforeZero bs) bs
+
     go : (t : Bool) → eqb (length back) 4 ≡ t → Read op bs (readValued op bs)
     go false e = absurd (declines refl (readValued-by op bs false e) h)
     go true e =
@@ -180,7 +182,7 @@ readValued-only op bs all v h = go (eqb (length back) 4) refl
         (value-shape op bs front back v parted (word-of-four back four (bytes-drop (suc (beforeZero bs)) bs all)))
 
 readShape-by : (op : ℕ) (bs : List ℕ) (t u : Bool) → asksValue op ≡ t → asksIndex op ≡ u
-  → readShape op bs ≡ cond t (readValued op bs) (cond u (askedIf (onIndex op 0 bs)) (askedIf (onPath op bs)))
+    → readShape op bs ≡ cond t (readValued op bs) (cond u (askedIf (onIndex op 0 bs)) (askedIf (onPath op bs)))
 unfolding readShape readIndexed
 readShape-by op bs t u e f = rw (e, f)
 
@@ -222,8 +224,8 @@ says c op bs a e r =
       is = r .is;
       allowed = allowed (a .request) (record { op = rw (r .shape .same) (leb-true op opWriteExtended (p .1)); rest = r .shape .rest });
       written =
-        ap₂ (λ x y. x ∷ y ∷ bs) (eqb-true c PDI (p .0)) (sym (r .shape .same))
-        ∙ ap (λ l. PDI ∷ a .request .op ∷ l) (r .shape .bytes)
+          ap₂ (λ x y. x ∷ y ∷ bs) (eqb-true c PDI (p .0)) (sym (r .shape .same))
+          ∙ ap (λ l. PDI ∷ a .request .op ∷ l) (r .shape .bytes);
     }
 
 pub readRequest-only : (bs : List ℕ) → Bytes bs → readRequest bs .number ≡ done → Says dataOf bs (readRequest bs)
@@ -275,7 +277,7 @@ value-back op v front h k =
     let s : List ℕ = front ++ 0 ∷ word v in
     let at : beforeZero s ≡ length front = zero-at front (word v) h in
     let back : drop (suc (beforeZero s)) s ≡ word v =
-          ap (λ n. drop n s) (ap suc at ∙ sym (add-one (length front))) ∙ drop-append-add front (0 ∷ word v) 1 in
+    ap (λ n. drop n s) (ap suc at ∙ sym (add-one (length front))) ∙ drop-append-add front (0 ∷ word v) 1 in
     readValued-by op s true (eq-eqb (length (drop (suc (beforeZero s)) s)) 4 (ap length back))
     ∙ ap₂ (λ b f. askedIf (onIndex op (number b) f)) back (take-at front (0 ∷ word v) (beforeZero s) (sym at))
     ∙ ap (λ n. askedIf (onIndex op n front)) (number-word v k)
@@ -360,12 +362,11 @@ dataOf-size r h =
     let index : length (indexPart r) ≤ 1 = part-most (asksIndex (r .op)) (r .index ∷ []) in
     let value : length (valuePart r) ≤ 5 = value-most r in
     let joined : length (body r) ≡ length (r .path) + (length (indexPart r) + length (valuePart r)) =
-          length-append (r .path) (indexPart r ++ valuePart r) ∙ ap (λ n. length (r .path) + n) (length-append (indexPart r) (valuePart r)) in
+    length-append (r .path) (indexPart r ++ valuePart r) ∙ ap (λ n. length (r .path) + n) (length-append (indexPart r) (valuePart r)) in
     (omega arith, omega (arith, joined))
 
 pub dataOf-sized : (r : Request) → Allowed r → Sized (dataOf r)
 dataOf-sized r h = record { least = omega (arith, dataOf-size r h); most = omega (arith, dataOf-size r h) }
-
 
 -- Serial and UDP alike: a form of data, and a reading of strings that gives back exactly what was written in that form.
 record Carrier (form : List ℕ → List ℕ) (reads : List ℕ → Received) : Type 0 where
@@ -393,17 +394,18 @@ module _ (form : List ℕ → List ℕ) (reads : List ℕ → Received) (carrier
           let is : readPayload (reads s) ≡ readRequest (reads s .payload) = readPayload-by (reads s) true e in
           let w : Written form s (reads s .payload) = carrier .only s (eqb-true (reads s .number) done e) in
           let d : Says dataOf (reads s .payload) (readRequest (reads s .payload)) =
-                readRequest-only (reads s .payload) (carrier .bytes (reads s .payload) (subst Bytes (w .written) all)) (sym (ap (λ a. a .number) is) ∙ h) in
+          readRequest-only (reads s .payload) (carrier .bytes (reads s .payload) (subst Bytes (w .written) all)) (sym (ap (λ a. a .number) is) ∙ h) in
           subst (Says (λ r. form (dataOf r)) s) (sym is)
           (record { is = d .is; allowed = d .allowed; written = w .written ∙ ap form (d .written) })
 
   exact : (s : List ℕ) → Bytes s → (r : Request) → (readPayload (reads s) ≡ asked r) ↔ (Allowed r × (s ≡ form (dataOf r)))
-  exact s all r =
-      (λ h.
+  exact s all r = (
+    λ h.
         let says : Says (λ r. form (dataOf r)) s (readPayload (reads s)) = carried-only s all (ap (λ a. a .number) h) in
         let same : readPayload (reads s) .request ≡ r = ap (λ a. a .request) h in
         (subst Allowed same (says .allowed), says .written ∙ ap (λ r. form (dataOf r)) same),
-      λ h. ap (λ s. readPayload (reads s)) (h .1) ∙ carried-back r (h .0))
+    λ h. ap (λ s. readPayload (reads s)) (h .1) ∙ carried-back r (h .0),
+  )
 
 -- The data of a frame or a datagram of bytes is bytes.
 bytes-undouble : (c : List ℕ) → Bytes (double c) → Bytes c
@@ -422,7 +424,7 @@ frame-bytes : (a : ℕ) (d : List ℕ) → Bytes (frame a d) → Bytes d
 unfolding frame wrap contentOf
 frame-bytes a d all =
     let content : Bytes (a ∷ (d ++ checksum (a ∷ d) ∷ [])) =
-          bytes-undouble (a ∷ (d ++ checksum (a ∷ d) ∷ [])) (bytes-left (double (a ∷ (d ++ checksum (a ∷ d) ∷ []))) (DLE ∷ ETX ∷ []) (λ i. all (suc (suc i)))) in
+    bytes-undouble (a ∷ (d ++ checksum (a ∷ d) ∷ [])) (bytes-left (double (a ∷ (d ++ checksum (a ∷ d) ∷ []))) (DLE ∷ ETX ∷ []) (λ i. all (suc (suc i)))) in
     bytes-left d (checksum (a ∷ d) ∷ []) (λ i. content (suc i))
 
 serial : (a : ℕ) → Carrier (frame a) (readFrame a)
@@ -434,12 +436,12 @@ udp = record { back = readDatagram-datagram; only = readDatagram-only; bytes = �
 
 -- Demand 3 on definitions: a string is read as r exactly when it is r's written form, serial and UDP.
 pub serial-exact : (a : ℕ) (s : List ℕ) → Bytes s → (r : Request)
-  → (readSerial a s ≡ record { number = done; request = r }) ↔ (Allowed r × (s ≡ serialForm a r))
+    → (readSerial a s ≡ record { number = done; request = r }) ↔ (Allowed r × (s ≡ serialForm a r))
 unfolding readSerial serialForm
 serial-exact a s all r = exact (frame a) (readFrame a) (serial a) s all r
 
 pub udp-exact : (s : List ℕ) → Bytes s → (r : Request)
-  → (readUdp s ≡ record { number = done; request = r }) ↔ (Allowed r × (s ≡ udpForm r))
+    → (readUdp s ≡ record { number = done; request = r }) ↔ (Allowed r × (s ≡ udpForm r))
 unfolding readUdp udpForm
 udp-exact s all r = exact datagram readDatagram udp s all r
 

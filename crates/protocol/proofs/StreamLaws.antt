@@ -21,7 +21,7 @@ after-append s [] y = refl
 after-append s (b ∷ x) y = after-append (step s b .after) x y
 
 pub handedUp-append : (a : ℕ) (s : Stream) (n : ℕ) (x y : List ℕ)
-  → handedUpFrom a s n (x ++ y) ≡ handedUpFrom a s n x ++ handedUpFrom a (after s x) (n + length x) y
+    → handedUpFrom a s n (x ++ y) ≡ handedUpFrom a s n x ++ handedUpFrom a (after s x) (n + length x) y
 unfolding after handedUpFrom
 handedUp-append a s n [] y = ap (λ m. handedUpFrom a s m y) (sym (add-zero n))
 handedUp-append a s n (b ∷ x) y =
@@ -100,7 +100,7 @@ double-append [] d = refl
 double-append (b ∷ c) d = go (eqb b DLE) (double-append c d)
   where
     go : (t : Bool) → double (c ++ d) ≡ double c ++ double d
-      → cond t (DLE ∷ DLE ∷ double (c ++ d)) (b ∷ double (c ++ d)) ≡ cond t (DLE ∷ DLE ∷ double c) (b ∷ double c) ++ double d
+        → cond t (DLE ∷ DLE ∷ double (c ++ d)) (b ∷ double (c ++ d)) ≡ cond t (DLE ∷ DLE ∷ double c) (b ∷ double c) ++ double d
     go true ih = ap (λ l. DLE ∷ DLE ∷ l) ih
     go false ih = ap (λ l. b ∷ l) ih
 
@@ -137,24 +137,27 @@ collected a (b ∷ bs) c n h = go (eqb b DLE) refl (collected a bs (c ++ b ∷ [
   where
     fits : length (c ++ b ∷ []) + length bs ≤ maxContent
     fits = omega (arith, length-append c (b ∷ []))
+
     room : length c < maxContent
     room = omega arith
+
     joined : inside false ((c ++ b ∷ []) ++ bs) ≡ inside false (c ++ b ∷ bs)
     joined = ap (inside false) (append-assoc c (b ∷ []) bs)
+
     go : (t : Bool) → eqb b DLE ≡ t → ((n : ℕ) → length (c ++ b ∷ []) + length bs ≤ maxContent → Collected a (c ++ b ∷ []) bs n) → Collected a c (b ∷ bs) n
     go true e ih =
         let pair : step (inside true c) DLE ≡ on (inside false (c ++ b ∷ [])) =
-              step-pair c room ∙ ap (λ x. on (inside false (c ++ x ∷ []))) (sym (eqb-true b DLE e)) in
+        step-pair c room ∙ ap (λ x. on (inside false (c ++ x ∷ []))) (sym (eqb-true b DLE e)) in
         let r : Collected a (c ++ b ∷ []) bs (suc (suc n)) = ih (suc (suc n)) fits in
         record {
           state = ap (after (inside false c)) (double-dle b bs e) ∙ quiet-after (inside true c) _ DLE (double bs) pair ∙ r .state ∙ joined;
-          silent = ap (handedUpFrom a (inside false c) n) (double-dle b bs e) ∙ quiet-silent a (inside true c) _ (suc n) DLE (double bs) pair ∙ r .silent
+          silent = ap (handedUpFrom a (inside false c) n) (double-dle b bs e) ∙ quiet-silent a (inside true c) _ (suc n) DLE (double bs) pair ∙ r .silent;
         }
     go false e ih =
         let r : Collected a (c ++ b ∷ []) bs (suc n) = ih (suc n) fits in
         record {
           state = ap (after (inside false c)) (double-lone b bs e) ∙ quiet-after (inside false c) _ b (double bs) (step-lone c b e room) ∙ r .state ∙ joined;
-          silent = ap (handedUpFrom a (inside false c) n) (double-lone b bs e) ∙ quiet-silent a (inside false c) _ n b (double bs) (step-lone c b e room) ∙ r .silent
+          silent = ap (handedUpFrom a (inside false c) n) (double-lone b bs e) ∙ quiet-silent a (inside false c) _ n b (double bs) (step-lone c b e room) ∙ r .silent;
         }
 
 -- What a frame closed at an end hands up.
@@ -185,8 +188,8 @@ handedUp-frame a n d h =
 
 -- "A good frame for this address, sent twice in a row after any noise, is handed up at the second sending at the latest."
 pub second-sending : (a : ℕ) (noise d : List ℕ) → Sized d
-  → handedUp a ((noise ++ frame a d) ++ frame a d)
-  ≡ handedUp a (noise ++ frame a d) ++ record { frame = received d; end = length ((noise ++ frame a d) ++ frame a d) } ∷ []
+    → handedUp a ((noise ++ frame a d) ++ frame a d)
+    ≡ handedUp a (noise ++ frame a d) ++ record { frame = received d; end = length ((noise ++ frame a d) ++ frame a d) } ∷ []
 second-sending a noise d h =
     let once : List ℕ = noise ++ frame a d in
     let outside : after begin once ≡ begin = after-append begin noise (frame a d) ∙ after-frame (after begin noise) a d in
@@ -228,10 +231,11 @@ unfolding step
 opening-ends bs front b h = go (eqb b STX) refl
   where
     go : (t : Bool) → eqb b STX ≡ t → Ends (cond t (inside false []) (outside false)) (bs ++ b ∷ [])
-    go true e =
-        (front,
-        snoc bs front (DLE ∷ []) b h
-        ∙ ap₂ (λ x l. front ++ (DLE ∷ x ∷ l)) (eqb-true b STX e) (sym double-nil))
+    go true e = (
+      front,
+      snoc bs front (DLE ∷ []) b h
+          ∙ ap₂ (λ x l. front ++ (DLE ∷ x ∷ l)) (eqb-true b STX e) (sym double-nil),
+    )
     go false e = tt
 
 lone-ends : (c bs front : List ℕ) (b : ℕ) → bs ≡ front ++ (DLE ∷ STX ∷ double c) → Ends (step (inside false c) b .after) (bs ++ b ∷ [])
@@ -240,6 +244,7 @@ lone-ends c bs front b h = go (eqb b DLE) refl
   where
     more : bs ++ b ∷ [] ≡ front ++ (DLE ∷ STX ∷ (double c ++ b ∷ []))
     more = snoc bs front (DLE ∷ STX ∷ double c) b h
+
     go : (t : Bool) → eqb b DLE ≡ t → Ends (cond t (on (inside true c)) (collect c b) .after) (bs ++ b ∷ [])
     go true e = (front, more ∙ ap (λ x. front ++ (DLE ∷ STX ∷ (double c ++ x ∷ []))) (eqb-true b DLE e))
     go false e = collect-ends c front (bs ++ b ∷ []) b (more ∙ ap (λ l. front ++ (DLE ∷ STX ∷ l)) (sym (double-append c (b ∷ []) ∙ ap (λ l. double c ++ l) (double-lone b [] e ∙ ap (λ l. b ∷ l) double-nil))))
@@ -250,20 +255,22 @@ pair-ends c bs front b h = go (eqb b DLE) refl (eqb b ETX) (eqb b STX) refl
   where
     more : bs ++ b ∷ [] ≡ front ++ (DLE ∷ STX ∷ (double c ++ DLE ∷ b ∷ []))
     more = snoc bs front (DLE ∷ STX ∷ (double c ++ DLE ∷ [])) b h ∙ ap (λ l. front ++ (DLE ∷ STX ∷ l)) (append-assoc (double c) (DLE ∷ []) (b ∷ []))
+
     go : (t : Bool) → eqb b DLE ≡ t → (u v : Bool) → eqb b STX ≡ v
-      → Ends (cond t (collect c DLE) (cond u (ends (closed c)) (cond v (on (inside false [])) (ends droppedPair))) .after) (bs ++ b ∷ [])
+        → Ends (cond t (collect c DLE) (cond u (ends (closed c)) (cond v (on (inside false [])) (ends droppedPair))) .after) (bs ++ b ∷ [])
     go true e u v g =
         collect-ends c front (bs ++ b ∷ []) DLE
         (more
         ∙ ap (λ x. front ++ (DLE ∷ STX ∷ (double c ++ DLE ∷ x ∷ []))) (eqb-true b DLE e)
         ∙ ap (λ l. front ++ (DLE ∷ STX ∷ l)) (sym (double-append c (DLE ∷ []) ∙ ap (λ l. double c ++ l) (double-dle DLE [] refl ∙ ap (λ l. DLE ∷ DLE ∷ l) double-nil))))
     go false e true v g = tt
-    go false e false true g =
-        (front ++ (DLE ∷ STX ∷ double c),
-        more
-        ∙ ap (λ x. front ++ (DLE ∷ STX ∷ (double c ++ DLE ∷ x ∷ []))) (eqb-true b STX g)
-        ∙ sym (append-assoc front (DLE ∷ STX ∷ double c) (DLE ∷ STX ∷ []))
-        ∙ ap (λ l. (front ++ (DLE ∷ STX ∷ double c)) ++ (DLE ∷ STX ∷ l)) (sym double-nil))
+    go false e false true g = (
+      front ++ (DLE ∷ STX ∷ double c),
+      more
+          ∙ ap (λ x. front ++ (DLE ∷ STX ∷ (double c ++ DLE ∷ x ∷ []))) (eqb-true b STX g)
+          ∙ sym (append-assoc front (DLE ∷ STX ∷ double c) (DLE ∷ STX ∷ []))
+          ∙ ap (λ l. (front ++ (DLE ∷ STX ∷ double c)) ++ (DLE ∷ STX ∷ l)) (sym double-nil),
+    )
     go false e false false g = tt
 
 ends-step : (s : Stream) (bs : List ℕ) (b : ℕ) → Ends s bs → Ends (step s b .after) (bs ++ b ∷ [])
@@ -313,8 +320,8 @@ closing (inside false d) b c h = absurd (not-closing _ c (go (eqb b DLE)) h)
 closing (inside true d) b c h = go (eqb b DLE) (eqb b ETX) refl (eqb b STX) h
   where
     go : (t u : Bool) → eqb b ETX ≡ u → (v : Bool)
-      → cond t (collect d DLE) (cond u (ends (closed d)) (cond v (on (inside false [])) (ends droppedPair))) .event ≡ closed c
-      → (inside true d ≡ inside true c) × (b ≡ ETX)
+        → cond t (collect d DLE) (cond u (ends (closed d)) (cond v (on (inside false [])) (ends droppedPair))) .event ≡ closed c
+        → (inside true d ≡ inside true c) × (b ≡ ETX)
     go true u e v h = absurd (not-closing (collect d DLE .event) c (collect-open d DLE) h)
     go false true e v h = (cc, eqb-true b ETX e)
     go false false e true h = absurd (not-closing nothing c refl h)
@@ -322,11 +329,12 @@ closing (inside true d) b c h = go (eqb b DLE) (eqb b ETX) refl (eqb b STX) h
 
 -- Each closed frame's content, doubled between 10 02 and 10 03, stands unbroken at the end of the bytes read.
 pub closed-stands : (bs : List ℕ) (b : ℕ) (c : List ℕ) → step (after begin bs) b .event ≡ closed c
-  → (front : List ℕ) × (bs ++ b ∷ [] ≡ front ++ wrap c)
+    → (front : List ℕ) × (bs ++ b ∷ [] ≡ front ++ wrap c)
 unfolding wrap
 closed-stands bs b c h =
     let p : (after begin bs ≡ inside true c) × (b ≡ ETX) = closing (after begin bs) b c h in
-    let e : (front : List ℕ) × (bs ≡ front ++ (DLE ∷ STX ∷ (double c ++ DLE ∷ []))) = subst (λ s. Ends s bs) (p .0) (bytes-end bs) in
-    (e .0,
-    snoc bs (e .0) (DLE ∷ STX ∷ (double c ++ DLE ∷ [])) b (e .1)
-    ∙ ap (λ l. e .0 ++ (DLE ∷ STX ∷ l)) (append-assoc (double c) (DLE ∷ []) (b ∷ []) ∙ ap (λ x. double c ++ DLE ∷ x ∷ []) (p .1)))
+    let e : (front : List ℕ) × (bs ≡ front ++ (DLE ∷ STX ∷ (double c ++ DLE ∷ []))) = subst (λ s. Ends s bs) (p .0) (bytes-end bs) in (
+      e .0,
+      snoc bs (e .0) (DLE ∷ STX ∷ (double c ++ DLE ∷ [])) b (e .1)
+          ∙ ap (λ l. e .0 ++ (DLE ∷ STX ∷ l)) (append-assoc (double c) (DLE ∷ []) (b ∷ []) ∙ ap (λ x. double c ++ DLE ∷ x ∷ []) (p .1)),
+    )
