@@ -5,7 +5,7 @@ use native.Mathlib.Omega.{arith}
 use native.Mathlib.Nat.{not-suc-le-zero}
 use mathlib.Core.Logic.{_⊎_, inl, inr}
 use mathlib.Core.Path.{_≡_, refl, sym, ap, ap₂, subst, _∙_}
-use mathlib.Core.Bool.{Bool, true, false, cond, _&&_, false≢true, and-eq-true-iff}
+use mathlib.Core.Bool.{Bool, true, false, cond, _&&_}
 use mathlib.Core.List.{List, [], _∷_, _++_}
 use mathlib.Core.Option.{Option, none, some, Option·none-ne-some, Option·some-injective}
 use borrow.Author.Tests.{eqb-true, eqb-false, ltb-true, ltb-false, leb-true, eq-eqb, ne-eqb}
@@ -19,17 +19,8 @@ use Rattle.protocol.specs.Frame.{Sized}
 use Rattle.protocol.specs.Request.{Request, Asked, asksIndex, asksValue, fits, askedIf, declined, beforeZero, readIndexed, readValued, readShape, readRequest}
 use Rattle.protocol.specs.Tree.{Node, Property, Tree, Cell, canRead, isLive, isText, isName, kindSound, liveSound, widthsSound, placesFrom, numbered, propertiesOf, propertyOf, nodeAt, nodeIn, propertyIn, cellIn, cellsSound, depthsSound, parentsSound, optionsSound, propertySound, nodesSound, propertiesSound, sound, readable}
 use Rattle.protocol.specs.Answer.{Outcome, saved, taken, readOnly, outOfRange, outcome, reason, writeNumber, stored, cellsAfter, echo, echoIndexed, nodeReply, recordReply, readReply, writeReply, Answer, plain, refuse, refusalCode, onRead, onWrite, onProperty, ifProperty, ifNode, perform, ifAsked, answer}
+use Rattle.protocol.proofs.TestLaws.{and-left, and-right, if-both, if-case, every-at, every-weaker}
 use Rattle.protocol.proofs.RequestLaws.{path-most}
-
--- A fact of both answers of a test is one of its outcome.
-if-both : {A : Type 0} (P : A → Type 0) (t : Bool) {x y : A} → P x → P y → P (cond t x y)
-if-both P true p q = p
-if-both P false p q = q
-
--- The same where each answer may use how the test came out.
-if-case : {A : Type 0} (P : A → Type 0) (t : Bool) {x y : A} → (t ≡ true → P x) → (t ≡ false → P y) → P (cond t x y)
-if-case P true p q = p refl
-if-case P false p q = q refl
 
 -- What is read as a request fits the table.
 pub record Fits (a : Asked) : Type 0 where
@@ -74,27 +65,13 @@ length-text : (s : List ℕ) → length (text s) ≡ length s + 1
 unfolding text
 length-text s = length-append s (0 ∷ [])
 
--- What an entry of a list has that every entry and the default have.
-every-at : {A : Type 0} (f : A → Bool) (xs : List A) (d : A) → every f xs ≡ true → f d ≡ true → (k : ℕ) → f (getD xs k d) ≡ true
-unfolding every
-every-at f [] d h e k = e
-every-at f (x ∷ xs) d h e zero = and-eq-true-iff (f x) (every f xs) .0 h .0
-every-at f (x ∷ xs) d h e (suc k) = every-at f xs d (and-eq-true-iff (f x) (every f xs) .0 h .1) e k
-
-every-weaker : {A : Type 0} (f g : A → Bool) → ((x : A) → f x ≡ true → g x ≡ true) → (xs : List A) → every f xs ≡ true → every g xs ≡ true
-unfolding every
-every-weaker f g w [] h = refl
-every-weaker f g w (x ∷ xs) h =
-    let p : (f x ≡ true) × (every f xs ≡ true) = and-eq-true-iff (f x) (every f xs) .0 h in
-    and-eq-true-iff (g x) (every g xs) .1 (w x (p .0), every-weaker f g w xs (p .1))
-
 name-short : (s : List ℕ) → isName s ≡ true → length s ≤ maxName
 unfolding isName
-name-short s h = leb-true (length s) maxName (and-eq-true-iff (leb (length s) maxName) (isText s) .0 h .0)
+name-short s h = leb-true (length s) maxName (and-left (leb (length s) maxName) (isText s) h)
 
 options-short : (ss : List (List ℕ)) → optionsSound ss ≡ true → length (texts ss) ≤ maxTexts
 unfolding optionsSound
-options-short ss h = leb-true (length (texts ss)) maxTexts (and-eq-true-iff (every isText ss) (leb (length (texts ss)) maxTexts) .0 h .1)
+options-short ss h = leb-true (length (texts ss)) maxTexts (and-right (every isText ss) (leb (length (texts ss)) maxTexts) h)
 
 -- The texts of a sound tree are short, wherever they stand.
 abbrev shortTexts : Property → Bool
@@ -103,8 +80,19 @@ shortTexts p = isName (p .label) && optionsSound (p .options)
 property-texts : (nodes : ℕ) (p : Property) → propertySound nodes p ≡ true → shortTexts p ≡ true
 unfolding propertySound
 property-texts nodes p h =
-    and-eq-true-iff (kindSound p) (shortTexts p) .0
-    (and-eq-true-iff (liveSound p) _ .0 (and-eq-true-iff (widthsSound p) _ .0 (and-eq-true-iff (ltb (p .node) nodes) _ .0 h .1) .1) .1) .1
+    and-right (kindSound p) _
+    (and-right (liveSound p) _ (and-right (widthsSound p) _ (and-right (ltb (p .node) nodes) _ h)))
+
+nodes-named : (ns : List Node) → nodesSound ns ≡ true → every (λ n. isName (n .name)) ns ≡ true
+unfolding nodesSound
+nodes-named ns h =
+    and-right (depthsSound ns) _ (and-right (parentsSound ns) _ (and-right (leb (length ns) maxNodes) _ h))
+
+properties-short : (t : Tree) → propertiesSound t ≡ true → every shortTexts (t .properties) ≡ true
+unfolding propertiesSound
+properties-short t h =
+    every-weaker (propertySound (length (t .nodes))) shortTexts (property-texts (length (t .nodes))) (t .properties)
+    (and-right (leb (length (t .properties)) maxProperties) _ h)
 
 record Texts (t : Tree) : Type 0 where
   names : (place : ℕ) → length (nodeIn t place .name) ≤ maxName
@@ -112,21 +100,17 @@ record Texts (t : Tree) : Type 0 where
   options : (place : ℕ) → length (texts (propertyIn t place .options)) ≤ maxTexts
 
 texts-short : (t : Tree) → sound t ≡ true → Texts t
-unfolding sound nodesSound propertiesSound isName optionsSound every texts
+unfolding sound isName optionsSound every texts
 texts-short t h =
-    let both : (nodesSound (t .nodes) ≡ true) × (propertiesSound t ≡ true) = and-eq-true-iff (nodesSound (t .nodes)) (propertiesSound t) .0 h in
     let names : every (λ n. isName (n .name)) (t .nodes) ≡ true =
-    and-eq-true-iff (depthsSound (t .nodes)) _ .0
-    (and-eq-true-iff (parentsSound (t .nodes)) _ .0 (and-eq-true-iff (leb (length (t .nodes)) maxNodes) _ .0 (both .0) .1) .1) .1 in
+    nodes-named (t .nodes) (and-left (nodesSound (t .nodes)) (propertiesSound t) h) in
     let short : every shortTexts (t .properties) ≡ true =
-    every-weaker (propertySound (length (t .nodes))) shortTexts (property-texts (length (t .nodes))) (t .properties)
-    (and-eq-true-iff (leb (length (t .properties)) maxProperties) _ .0 (both .1) .1) in
-    let at : (place : ℕ) → (isName (propertyIn t place .label) ≡ true) × (optionsSound (propertyIn t place .options) ≡ true) =
-    λ place. and-eq-true-iff (isName (propertyIn t place .label)) (optionsSound (propertyIn t place .options)) .0 (every-at shortTexts (t .properties) _ short refl place) in
+    properties-short t (and-right (nodesSound (t .nodes)) (propertiesSound t) h) in
+    let at : (place : ℕ) → shortTexts (propertyIn t place) ≡ true = every-at shortTexts (t .properties) _ short refl in
     record {
       names = λ place. name-short (nodeIn t place .name) (every-at (λ n. isName (n .name)) (t .nodes) _ names refl place);
-      labels = λ place. name-short (propertyIn t place .label) (at place .0);
-      options = λ place. options-short (propertyIn t place .options) (at place .1);
+      labels = λ place. name-short (propertyIn t place .label) (and-left _ (optionsSound (propertyIn t place .options)) (at place));
+      options = λ place. options-short (propertyIn t place .options) (and-right (isName (propertyIn t place .label)) _ (at place));
     }
 
 reason-short : (o : Outcome) → length (reason o) ≤ 9
@@ -164,7 +148,8 @@ module _ (r : Request) (path : length (r .path) ≤ maxDepth) where
   unfolding recordReply word half
   record-size t short place =
       let p : Property = propertyIn t place in
-      indexed-size _ (omega (arith, short .labels place, short .options place, length-text (p .label), length-append (text (p .label)) (texts (p .options))))
+      let size = length-append (text (p .label)) (texts (p .options)) in
+      indexed-size _ (omega (arith, short .labels place, short .options place, length-text (p .label), size))
 
   read-size : (c : Cell) → Sized (readReply c r)
   unfolding readReply word
@@ -217,14 +202,18 @@ module _ (t : Tree) (cs : List Cell) (r : Request) (short : Texts t) (path : len
       (ifNode-replies (nodeAt t (r .path)))
 
 -- Every reply has 1 to 256 bytes: to any data, with host functions on or off, whatever the cells hold.
-pub reply-sized : (t : Tree) → sound t ≡ true → (cs : List Cell) (host : Bool) (bs : List ℕ) → Sized (answer t cs host bs .reply)
+pub reply-sized : (t : Tree) → sound t ≡ true → (cs : List Cell) (host : Bool) (bs : List ℕ)
+    → Sized (answer t cs host bs .reply)
 unfolding answer ifAsked
 reply-sized t h cs false bs = refuse-replies cs disabled .size
 reply-sized t h cs true bs = go (eqb (readRequest bs .number) done) refl .size
   where
-    go : (k : Bool) → eqb (readRequest bs .number) done ≡ k → Replies (cond k (perform t cs (readRequest bs .request)) (refuse cs (readRequest bs .number)))
+    go : (k : Bool) → eqb (readRequest bs .number) done ≡ k
+        → Replies (cond k (perform t cs (readRequest bs .request)) (refuse cs (readRequest bs .number)))
     go false e = refuse-replies cs (readRequest bs .number)
-    go true e = perform-replies t cs (readRequest bs .request) (texts-short t h) (path-most (readRequest bs .request) (readRequest-fits bs .fit (eqb-true (readRequest bs .number) done e)))
+    go true e =
+        let fit : fits (readRequest bs .request) ≡ true = readRequest-fits bs .fit (eqb-true (readRequest bs .number) done e) in
+        perform-replies t cs (readRequest bs .request) (texts-short t h) (path-most (readRequest bs .request) fit)
 
 -- A request that names a property: its path has a node, and the node has a property with its index, at a place.
 pub record Finds (t : Tree) (r : Request) (place : ℕ) : Type 0 where
@@ -233,7 +222,8 @@ pub record Finds (t : Tree) (r : Request) (place : ℕ) : Type 0 where
   pub atProperty : propertyOf t node (record { 0 = r .index }) ≡ some place
 
 -- The places that a test picks out of a list lie within it.
-picked : {A : Type 0} (f : A → Bool) (xs : List A) (k n place : ℕ) → getElem? (placesFrom k f xs) n ≡ some place → place < k + length xs
+picked : {A : Type 0} (f : A → Bool) (xs : List A) (k n place : ℕ) → getElem? (placesFrom k f xs) n ≡ some place
+    → place < k + length xs
 unfolding placesFrom
 picked f [] k n place h = absurd (Option·none-ne-some place h)
 picked f (x ∷ xs) k n place h = go (f x) n (λ m. picked f xs (suc k) m place) h
@@ -244,7 +234,8 @@ picked f (x ∷ xs) k n place h = go (f x) n (λ m. picked f xs (suc k) m place)
     go true (suc n) ih h = omega (arith, ih n h)
     go false n ih h = omega (arith, ih n h)
 
-found-below : (xs : List ℕ) (index place bound : ℕ) → ((n : ℕ) → getElem? xs n ≡ some place → place < bound) → numbered xs index ≡ some place → place < bound
+found-below : (xs : List ℕ) (index place bound : ℕ) → ((n : ℕ) → getElem? xs n ≡ some place → place < bound)
+    → numbered xs index ≡ some place → place < bound
 unfolding numbered
 found-below xs zero place bound h e = absurd (Option·none-ne-some place e)
 found-below xs (suc n) place bound h e = h n e
@@ -258,12 +249,16 @@ finds-below t r place f =
     (f .atProperty)
 
 -- A request performed, where it names a property.
-finds-performs : (t : Tree) (cs : List Cell) (r : Request) (place : ℕ) → Finds t r place → opNode < r .op → perform t cs r ≡ onProperty t cs r place
+finds-performs : (t : Tree) (cs : List Cell) (r : Request) (place : ℕ) → Finds t r place → opNode < r .op
+    → perform t cs r ≡ onProperty t cs r place
 unfolding perform ifNode ifProperty
 finds-performs t cs r place f h =
-    rw (ne-eqb (r .op) opDetect (λ e. omega (arith, e, h)), f .atNode, ne-eqb (r .op) opNode (λ e. omega (arith, e, h)), f .atProperty)
+    let detect : eqb (r .op) opDetect ≡ false = ne-eqb (r .op) opDetect (λ e. omega (arith, e, h)) in
+    let tree : eqb (r .op) opNode ≡ false = ne-eqb (r .op) opNode (λ e. omega (arith, e, h)) in
+    rw (detect, f .atNode, tree, f .atProperty)
 
-answer-asked : (t : Tree) (cs : List Cell) (bs : List ℕ) (r : Request) → readRequest bs ≡ record { number = done; request = r } → answer t cs true bs ≡ perform t cs r
+answer-asked : (t : Tree) (cs : List Cell) (bs : List ℕ) (r : Request)
+    → readRequest bs ≡ record { number = done; request = r } → answer t cs true bs ≡ perform t cs r
 unfolding answer ifAsked
 answer-asked t cs bs r h = ap (ifAsked t cs) h
 
@@ -298,7 +293,8 @@ pub record Saves (t : Tree) (bs : List ℕ) (place value : ℕ) : Type 0 where
 -- The cells after any request: as they were, or with the one setting that was written.
 pub data Changes (t : Tree) (cs : List Cell) (bs : List ℕ) (after : List Cell) : Type 0 where
   none-changed : after ≡ cs → Changes t cs bs after
-  one-written : (place value : ℕ) → Saves t bs place value → after ≡ set cs place (stored (cellIn cs place) value) → Changes t cs bs after
+  one-written : (place value : ℕ) → Saves t bs place value → after ≡ set cs place (stored (cellIn cs place) value)
+      → Changes t cs bs after
 
 -- An answer to data, with such cells.
 record Leaves (t : Tree) (cs : List Cell) (bs : List ℕ) (a : Answer) : Type 0 where
@@ -308,7 +304,8 @@ kept : (t : Tree) (cs : List Cell) (bs : List ℕ) (n : ℕ) (reply : List ℕ) 
 kept t cs bs n reply = record { leaves = none-changed refl }
 
 module _ (t : Tree) (cs : List Cell) (bs : List ℕ) (r : Request) (asks : readRequest bs ≡ record { number = done; request = r }) where
-  write-leaves : (place : ℕ) → opRead < r .op → Finds t r place → Leaves t cs bs (onWrite cs place r (outcome (propertyIn t place) (r .value)))
+  write-leaves : (place : ℕ) → opRead < r .op → Finds t r place
+      → Leaves t cs bs (onWrite cs place r (outcome (propertyIn t place) (r .value)))
   unfolding onWrite cellsAfter
   write-leaves place h f = go (outcome (propertyIn t place) (r .value)) refl
     where
@@ -329,10 +326,14 @@ module _ (t : Tree) (cs : List Cell) (bs : List ℕ) (r : Request) (asks : readR
   property-leaves place h f =
       if-case (Leaves t cs bs) (eqb (r .op) opRecord) (λ e. kept t cs bs done _)
       (λ e. if-case (Leaves t cs bs) (eqb (r .op) opRead)
-      (λ e. if-both (Leaves t cs bs) (readable (propertyIn t place) (cellIn cs place)) (kept t cs bs done _) (kept t cs bs noReading _))
+      (λ e.
+      if-both (Leaves t cs bs) (readable (propertyIn t place) (cellIn cs place))
+      (kept t cs bs done _)
+      (kept t cs bs noReading _))
       (λ e′. write-leaves place (omega (arith, eqb-false (r .op) opRecord e, eqb-false (r .op) opRead e′, h)) f))
 
-  ifProperty-leaves : (node : ℕ) → nodeAt t (r .path) ≡ some node → opNode < r .op → (o : Option ℕ) → propertyOf t node (record { 0 = r .index }) ≡ o → Leaves t cs bs (ifProperty t cs r o)
+  ifProperty-leaves : (node : ℕ) → nodeAt t (r .path) ≡ some node → opNode < r .op → (o : Option ℕ)
+      → propertyOf t node (record { 0 = r .index }) ≡ o → Leaves t cs bs (ifProperty t cs r o)
   unfolding ifProperty
   ifProperty-leaves node n h none e = kept t cs bs badParameter _
   ifProperty-leaves node n h (some place) e = property-leaves place h (record { node = node; atNode = n; atProperty = e })
@@ -342,7 +343,9 @@ module _ (t : Tree) (cs : List Cell) (bs : List ℕ) (r : Request) (asks : readR
   ifNode-leaves h none e = kept t cs bs badParameter _
   ifNode-leaves h (some node) e =
       if-case (Leaves t cs bs) (eqb (r .op) opNode) (λ q. kept t cs bs done _)
-      (λ q. ifProperty-leaves node e (omega (arith, eqb-false (r .op) opNode q, h)) (propertyOf t node (record { 0 = r .index })) refl)
+      (λ q.
+      let above : opNode < r .op = omega (arith, eqb-false (r .op) opNode q, h) in
+      ifProperty-leaves node e above (propertyOf t node (record { 0 = r .index })) refl)
 
   perform-leaves : Leaves t cs bs (perform t cs r)
   unfolding perform
@@ -356,7 +359,9 @@ unfolding answer ifAsked
 changes t cs false bs = none-changed refl
 changes t cs true bs =
     if-case (Leaves t cs bs) (eqb (readRequest bs .number) done)
-    (λ e. perform-leaves t cs bs (readRequest bs .request) (ap (λ n. record { number = n; request = readRequest bs .request }) (eqb-true (readRequest bs .number) done e)))
+    (λ e.
+    perform-leaves t cs bs (readRequest bs .request)
+    (ap (λ n. record { number = n; request = readRequest bs .request }) (eqb-true (readRequest bs .number) done e)))
     (λ e. kept t cs bs (readRequest bs .number) _)
     .leaves
 
@@ -381,7 +386,7 @@ unfolding onWrite cellsAfter cellsSound
 write-holds t cs bs place value h s =
     let r : Request = s .request in
     let size : length cs ≡ length (t .properties) =
-    eqb-true (length cs) (length (t .properties)) (and-eq-true-iff (eqb (length cs) (length (t .properties))) _ .0 h .0) in
+    eqb-true (length cs) (length (t .properties)) (and-left (eqb (length cs) (length (t .properties))) _ h) in
     ap (λ a. cellIn (a .cells) place .word) (write-accepted t cs bs place value s)
     ∙ ap (λ c. c .word)
     (getD-set-same cs place (stored (cellIn cs place) (r .value)) _ (omega (arith, size, finds-below t r place (s .finds))))
@@ -400,14 +405,17 @@ others-stay t cs host bs k h = go (changes t cs host bs)
     go (none-changed e) = ap (λ l. cellIn l k) e
     go (one-written place value s e) =
         ap (λ l. cellIn l k) e
-        ∙ getD-set-other cs place k (stored (cellIn cs place) value) _ (λ same. h value (subst (λ p. Saves t bs p value) (sym same) s))
+        ∙ getD-set-other cs place k (stored (cellIn cs place) value) _
+        (λ same. h value (subst (λ p. Saves t bs p value) (sym same) s))
 
 -- Refusals 9 to 13 change no cell.
-pub refusal-keeps : (t : Tree) (cs : List Cell) (host : Bool) (bs : List ℕ) → (answer t cs host bs .number ≡ done → ⊥) → answer t cs host bs .cells ≡ cs
+pub refusal-keeps : (t : Tree) (cs : List Cell) (host : Bool) (bs : List ℕ) → (answer t cs host bs .number ≡ done → ⊥)
+    → answer t cs host bs .cells ≡ cs
 unfolding answer
 refusal-keeps t cs false bs h = refl
 refusal-keeps t cs true bs h = go (changes t cs true bs)
   where
     go : Changes t cs bs (answer t cs true bs .cells) → answer t cs true bs .cells ≡ cs
     go (none-changed e) = e
-    go (one-written place value s e) = absurd (h (ap (λ a. a .number) (write-accepted t cs bs place value s) ∙ saved-done cs place (s .request)))
+    go (one-written place value s e) =
+        absurd (h (ap (λ a. a .number) (write-accepted t cs bs place value s) ∙ saved-done cs place (s .request)))

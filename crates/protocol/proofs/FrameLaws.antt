@@ -3,7 +3,7 @@
 use Prim.Native.Nat.{ℕ, suc, _+_, _-_, _<_, _≤_}
 use native.Mathlib.Omega.{arith}
 use mathlib.Core.Path.{_≡_, refl, sym, ap, ap₂, _∙_}
-use mathlib.Core.Bool.{Bool, true, false, cond, _&&_, false≢true, and-eq-true-iff}
+use mathlib.Core.Bool.{Bool, true, false, cond, _&&_, false≢true}
 use mathlib.Core.List.{List, [], _∷_, _++_}
 use mathlib.Core.Option.{Option, none, some, Option·none-ne-some, Option·some-injective}
 use borrow.Author.Tests.{eqb-true, eqb-false, ltb-true, ltb-false, eq-eqb, ne-eqb, le-ltb, le-leb}
@@ -13,6 +13,8 @@ use lib.Seq.{take-at, getD-at, take-suc, take-length}
 use lib.Dec.{eqb, ltb, leb}
 use Rattle.protocol.specs.Numbers.{done, noPreamble, tooShort, tooLong, badChecksum, otherAddress, maxData, maxContent, DLE, STX, ETX}
 use Rattle.protocol.specs.Bytes.{every}
+use Rattle.protocol.proofs.TestLaws.{and-left, and-right, every-at}
+use Rattle.protocol.proofs.ListLaws.{init-last}
 use Rattle.protocol.specs.Frame.{Received, double, undouble, push, atEnd, checksum, contentOf, addressIn, dataIn, checksumIn, received, refused, judge, judgeWhole, readFrame, frame, wrap, Sized, ifSized, datagram, readDatagram, fourZeros}
 
 pub double-nil : double [] ≡ []
@@ -55,7 +57,8 @@ unfolding undouble double
 undouble-double [] = refl
 undouble-double (b ∷ bs) = go (undouble-double bs) (eqb b DLE) refl
   where
-    go : undouble false (double bs ++ DLE ∷ ETX ∷ []) ≡ some bs → (t : Bool) → eqb b DLE ≡ t → undouble false (double (b ∷ bs) ++ DLE ∷ ETX ∷ []) ≡ some (b ∷ bs)
+    go : undouble false (double bs ++ DLE ∷ ETX ∷ []) ≡ some bs → (t : Bool) → eqb b DLE ≡ t
+        → undouble false (double (b ∷ bs) ++ DLE ∷ ETX ∷ []) ≡ some (b ∷ bs)
     go ih true e = rw (double-dle b bs e) (ap (push DLE) ih ∙ rw (eqb-true b DLE e))
     go ih false e = rw (double-lone b bs e) (undouble-lone b (double bs ++ DLE ∷ ETX ∷ []) e ∙ ap (push b) ih)
 
@@ -73,8 +76,11 @@ waiting true bs = DLE ∷ bs
 waiting false bs = bs
 
 -- The bytes of a content, as they stand before the end of a frame.
+abbrev closing : List ℕ → List ℕ
+closing l = l ++ DLE ∷ ETX ∷ []
+
 abbrev ended : List ℕ → List ℕ
-ended c = double c ++ DLE ∷ ETX ∷ []
+ended c = closing (double c)
 
 -- What reads as a content is that content doubled, and 10 03.
 double-undouble : (s : List ℕ) (w : Bool) (c : List ℕ) → undouble w s ≡ some c → waiting w s ≡ ended c
@@ -83,32 +89,38 @@ double-undouble [] true c h = absurd (Option·none-ne-some _ h)
 double-undouble [] false c h = absurd (Option·none-ne-some _ h)
 double-undouble (b ∷ bs) true c h = go (eqb b DLE) refl (eqb b ETX) refl (double-undouble bs false)
   where
-    go : (t : Bool) → eqb b DLE ≡ t → (u : Bool) → eqb b ETX ≡ u → ((d : List ℕ) → undouble false bs ≡ some d → bs ≡ ended d) → DLE ∷ b ∷ bs ≡ ended c
+    go : (t : Bool) → eqb b DLE ≡ t → (u : Bool) → eqb b ETX ≡ u
+        → ((d : List ℕ) → undouble false bs ≡ some d → bs ≡ ended d) → DLE ∷ b ∷ bs ≡ ended c
     go true e u f ih =
-        let p : (d : List ℕ) × (undouble false bs ≡ some d) × (c ≡ DLE ∷ d) = push-some DLE _ c (sym (undouble-pair b bs e) ∙ h) in
-        ap (λ x. DLE ∷ x ∷ bs) (eqb-true b DLE e) ∙ ap (λ l. DLE ∷ DLE ∷ l) (ih (p .0) (p .1)) ∙ sym (ap ended (p .2) ∙ ap (λ l. l ++ DLE ∷ ETX ∷ []) (double-dle DLE (p .0) refl))
+        let p : (d : List ℕ) × (undouble false bs ≡ some d) × (c ≡ DLE ∷ d) =
+        push-some DLE _ c (sym (undouble-pair b bs e) ∙ h) in
+        ap (λ x. DLE ∷ x ∷ bs) (eqb-true b DLE e)
+        ∙ ap (λ l. DLE ∷ DLE ∷ l) (ih (p .0) (p .1))
+        ∙ sym (ap ended (p .2) ∙ ap closing (double-dle DLE (p .0) refl))
     go false e true f ih =
         let p : (bs ≡ []) × (c ≡ []) = atEnd-some bs c (sym (undouble-end b bs e f) ∙ h) in
-        ap (λ x. DLE ∷ x ∷ bs) (eqb-true b ETX f) ∙ ap (λ l. DLE ∷ ETX ∷ l) (p .0) ∙ sym (ap ended (p .1) ∙ ap (λ l. l ++ DLE ∷ ETX ∷ []) double-nil)
+        ap (λ x. DLE ∷ x ∷ bs) (eqb-true b ETX f)
+        ∙ ap (λ l. DLE ∷ ETX ∷ l) (p .0)
+        ∙ sym (ap ended (p .1) ∙ ap closing double-nil)
     go false e false f ih = absurd (Option·none-ne-some _ (sym (undouble-bad b bs e f) ∙ h))
 double-undouble (b ∷ bs) false c h = go (eqb b DLE) refl (double-undouble bs true) (double-undouble bs false)
   where
-    go : (t : Bool) → eqb b DLE ≡ t → ((d : List ℕ) → undouble true bs ≡ some d → DLE ∷ bs ≡ ended d) → ((d : List ℕ) → undouble false bs ≡ some d → bs ≡ ended d) → b ∷ bs ≡ ended c
+    go : (t : Bool) → eqb b DLE ≡ t → ((d : List ℕ) → undouble true bs ≡ some d → DLE ∷ bs ≡ ended d)
+        → ((d : List ℕ) → undouble false bs ≡ some d → bs ≡ ended d) → b ∷ bs ≡ ended c
     go true e ih₁ ih₂ = ap (λ x. x ∷ bs) (eqb-true b DLE e) ∙ ih₁ c (sym (undouble-dle b bs e) ∙ h)
     go false e ih₁ ih₂ =
         let p : (d : List ℕ) × (undouble false bs ≡ some d) × (c ≡ b ∷ d) = push-some b _ c (sym (undouble-lone b bs e) ∙ h) in
-        ap (λ l. b ∷ l) (ih₂ (p .0) (p .1)) ∙ sym (ap ended (p .2) ∙ ap (λ l. l ++ DLE ∷ ETX ∷ []) (double-lone b (p .0) e))
+        ap (λ l. b ∷ l) (ih₂ (p .0) (p .1)) ∙ sym (ap ended (p .2) ∙ ap closing (double-lone b (p .0) e))
 
 -- A content of at least two bytes is its address, its data and its checksum.
 parts : (c : List ℕ) → 2 ≤ length c → c ≡ addressIn c ∷ (dataIn c ++ checksumIn c ∷ [])
 parts [] h = absurd (not-suc-le-zero h)
 parts (x ∷ []) h = absurd (not-suc-le-zero (le-of-suc-le-suc h))
 parts (x ∷ y ∷ ys) h =
-    let data-end : length ys ≡ length (x ∷ y ∷ ys) - 2 = omega arith in
-    let sum-at : suc (length ys) ≡ length (x ∷ y ∷ ys) - 1 = omega arith in
+    let data-end : length (y ∷ ys) - 1 ≡ length (x ∷ y ∷ ys) - 2 = omega arith in
+    let sum-at : suc (length (y ∷ ys) - 1) ≡ length (x ∷ y ∷ ys) - 1 = omega arith in
     ap (λ l. x ∷ l)
-    (sym (take-length (y ∷ ys))
-    ∙ take-suc (y ∷ ys) (length ys) 0 (le-refl (length (y ∷ ys)))
+    (init-last (y ∷ ys) (omega arith)
     ∙ ap₂ (λ i j. take i (y ∷ ys) ++ getD (x ∷ y ∷ ys) j 0 ∷ []) data-end sum-at)
 
 -- A refusal is no 0.
@@ -167,7 +179,8 @@ front (x ∷ xs) h =
     ap (λ n. take n (x ∷ xs)) e
 
 -- The parts of a content whose tests pass make it up again.
-good : (a : ℕ) (c : List ℕ) → 3 ≤ length c → checksumIn c ≡ checksum (take (length c - 1) c) → addressIn c ≡ a → Good a c (dataIn c)
+good : (a : ℕ) (c : List ℕ) → 3 ≤ length c → checksumIn c ≡ checksum (take (length c - 1) c) → addressIn c ≡ a
+    → Good a c (dataIn c)
 unfolding contentOf
 good a c h s e =
     let long : 2 ≤ length c = omega arith in
@@ -187,11 +200,13 @@ judge-by a c t u v s p q = rw (s, p, q)
 pub judge-only : (a : ℕ) (c : List ℕ) → judge a c .number ≡ done → Good a c (judge a c .payload)
 judge-only a c h = go (isShort c) refl (isSummed c) refl (eqb (addressIn c) a) refl
   where
-    go : (t : Bool) → isShort c ≡ t → (u : Bool) → isSummed c ≡ u → (v : Bool) → eqb (addressIn c) a ≡ v → Good a c (judge a c .payload)
+    go : (t : Bool) → isShort c ≡ t → (u : Bool) → isSummed c ≡ u → (v : Bool) → eqb (addressIn c) a ≡ v
+        → Good a c (judge a c .payload)
     go true s u p v q = absurd (never-done refl (judge-by a c true u v s p q) h)
     go false s false p v q = absurd (never-done refl (judge-by a c false false v s p q) h)
     go false s true p false q = absurd (never-done refl (judge-by a c false true false s p q) h)
-    go false s true p true q = rw (judge-by a c false true true s p q) (good a c (ltb-false _ _ s) (eqb-true _ _ p) (eqb-true _ _ q))
+    go false s true p true q =
+        rw (judge-by a c false true true s p q) (good a c (ltb-false _ _ s) (eqb-true _ _ p) (eqb-true _ _ q))
 
 -- The whole string. Its reading, by the outcome of the test on its first two bytes.
 pub readFrame-wrap : (a : ℕ) (c : List ℕ) → readFrame a (wrap c) ≡ judgeWhole a (some c)
@@ -202,7 +217,8 @@ readFrame-wrap a c = ap (judgeWhole a) (undouble-double c)
 pub readFrame-frame : (a : ℕ) (d : List ℕ) → Sized d → readFrame a (frame a d) ≡ received d
 unfolding frame judgeWhole
 readFrame-frame a d h =
-    let fits : ltb maxContent (length (contentOf a d)) ≡ false = le-ltb maxContent (length (contentOf a d)) (omega (arith, length-contentOf a d)) in
+    let fits : ltb maxContent (length (contentOf a d)) ≡ false =
+    le-ltb maxContent (length (contentOf a d)) (omega (arith, length-contentOf a d)) in
     readFrame-wrap a (contentOf a d) ∙ rw fits (judge-contentOf a d (h .least))
 
 -- A string or datagram that is read as data is the written form of that data, whose size is right.
@@ -210,7 +226,8 @@ pub record Written (form : List ℕ → List ℕ) (s d : List ℕ) : Type 0 wher
   pub written : s ≡ form d
   pub size : Sized d
 
-judgeWhole-by : (a : ℕ) (c : List ℕ) (t : Bool) → ltb maxContent (length c) ≡ t → judgeWhole a (some c) ≡ cond t (refused tooLong) (judge a c)
+judgeWhole-by : (a : ℕ) (c : List ℕ) (t : Bool) → ltb maxContent (length c) ≡ t
+    → judgeWhole a (some c) ≡ cond t (refused tooLong) (judge a c)
 unfolding judgeWhole
 judgeWhole-by a c t e = rw e
 
@@ -242,12 +259,14 @@ isOpened s = eqb (getD s 0 0) DLE && eqb (getD s 1 0) STX
 
 opened : (s : List ℕ) → isOpened s ≡ true → s ≡ DLE ∷ STX ∷ drop 2 s
 opened [] h = absurd (false≢true h)
-opened (x ∷ []) h = absurd (false≢true (and-eq-true-iff (eqb x DLE) false .0 h .1))
+opened (x ∷ []) h = absurd (false≢true (and-right (eqb x DLE) false h))
 opened (x ∷ y ∷ ys) h =
-    let p : (eqb x DLE ≡ true) × (eqb y STX ≡ true) = and-eq-true-iff (eqb x DLE) (eqb y STX) .0 h in
-    ap₂ (λ p q. p ∷ q ∷ ys) (eqb-true x DLE (p .0)) (eqb-true y STX (p .1))
+    ap₂ (λ p q. p ∷ q ∷ ys)
+    (eqb-true x DLE (and-left (eqb x DLE) (eqb y STX) h))
+    (eqb-true y STX (and-right (eqb x DLE) (eqb y STX) h))
 
-readFrame-by : (a : ℕ) (s : List ℕ) (t : Bool) → isOpened s ≡ t → readFrame a s ≡ cond t (judgeWhole a (undouble false (drop 2 s))) (refused noPreamble)
+readFrame-by : (a : ℕ) (s : List ℕ) (t : Bool) → isOpened s ≡ t
+    → readFrame a s ≡ cond t (judgeWhole a (undouble false (drop 2 s))) (refused noPreamble)
 unfolding readFrame
 readFrame-by a s t e = rw e
 
@@ -259,12 +278,18 @@ readFrame-only a s h = go (isOpened s) refl
     go : (t : Bool) → isOpened s ≡ t → Written (frame a) s (readFrame a s .payload)
     go false e = absurd (never-done refl (readFrame-by a s false e) h)
     go true e =
-        let w : Whole a (undouble false (drop 2 s)) (judgeWhole a (undouble false (drop 2 s)) .payload) =
-        judgeWhole-only a (undouble false (drop 2 s)) (sym (ap (λ r. r .number) (readFrame-by a s true e)) ∙ h) in
+        let o : Option (List ℕ) = undouble false (drop 2 s) in
+        let w : Whole a o (judgeWhole a o .payload) =
+        judgeWhole-only a o (sym (ap (λ r. r .number) (readFrame-by a s true e)) ∙ h) in
+        let most : length (judgeWhole a o .payload) ≤ maxData =
+        omega (arith, w .most, ap length (w .good .content), length-contentOf a (judgeWhole a o .payload)) in
         rw (readFrame-by a s true e)
         (record {
-          written = opened s e ∙ ap (λ l. DLE ∷ STX ∷ l) (double-undouble (drop 2 s) false (w .content) (w .is)) ∙ ap wrap (w .good .content);
-          size = record { least = w .good .least; most = omega (arith, w .most, ap length (w .good .content), length-contentOf a (judgeWhole a (undouble false (drop 2 s)) .payload)) };
+          written =
+              opened s e
+              ∙ ap (λ l. DLE ∷ STX ∷ l) (double-undouble (drop 2 s) false (w .content) (w .is))
+              ∙ ap wrap (w .good .content);
+          size = record { least = w .good .least; most = most };
         })
 
 -- No string is the frame of two contents, nor of two addresses or two data.
@@ -316,12 +341,10 @@ zeros (a ∷ []) h = absurd (false≢true h)
 zeros (a ∷ b ∷ []) h = absurd (false≢true h)
 zeros (a ∷ b ∷ c ∷ []) h = absurd (false≢true h)
 zeros (a ∷ b ∷ c ∷ d ∷ bs) h =
-    let p = and-eq-true-iff (leb 4 (length (a ∷ b ∷ c ∷ d ∷ bs))) _ .0 h .1 in
-    let q = and-eq-true-iff (eqb a 0) _ .0 p in
-    let r = and-eq-true-iff (eqb b 0) _ .0 (q .1) in
-    let t = and-eq-true-iff (eqb c 0) _ .0 (r .1) in
-    let u = and-eq-true-iff (eqb d 0) _ .0 (t .1) in
-    cc (eqb-true a 0 (q .0), eqb-true b 0 (r .0), eqb-true c 0 (t .0), eqb-true d 0 (u .0))
+    let all : every (λ x. eqb x 0) (a ∷ b ∷ c ∷ d ∷ []) ≡ true = and-right (leb 4 (length (a ∷ b ∷ c ∷ d ∷ bs))) _ h in
+    let zero-at : (k : ℕ) → getD (a ∷ b ∷ c ∷ d ∷ []) k 0 ≡ 0 =
+    λ k. eqb-true _ 0 (every-at (λ x. eqb x 0) (a ∷ b ∷ c ∷ d ∷ []) 0 all refl k) in
+    cc (zero-at 0, zero-at 1, zero-at 2, zero-at 3)
 
 readDatagram-by : (s : List ℕ) (t : Bool) → fourZeros s ≡ t → readDatagram s ≡ cond t (ifSized (drop 4 s)) (refused noPreamble)
 unfolding readDatagram

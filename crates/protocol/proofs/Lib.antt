@@ -1,7 +1,9 @@
 -- What is proved of the definitions of specs/.
+pub mod TestLaws
 pub mod ListLaws
 pub mod FrameLaws
 pub mod StreamLaws
 pub mod RequestLaws
+pub mod RuleLaws
 pub mod AnswerLaws
 pub mod Marked

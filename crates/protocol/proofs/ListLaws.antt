@@ -31,16 +31,19 @@ pub number-word : (n : ℕ) → n < wordEnd → number (word n) ≡ n
 unfolding numberAfter word
 number-word n h =
     let low : n / 2 ^ 8 ≡ n / 2 ^ 16 * 2 ^ 8 + n / 2 ^ 8 % 2 ^ 8 = digit n (2 ^ 8) (div-div-eq-div-mul n (2 ^ 8) (2 ^ 8)) in
-    let high : n / 2 ^ 16 ≡ n / 2 ^ 24 * 2 ^ 8 + n / 2 ^ 16 % 2 ^ 8 = digit n (2 ^ 16) (div-div-eq-div-mul n (2 ^ 16) (2 ^ 8)) in
+    let high : n / 2 ^ 16 ≡ n / 2 ^ 24 * 2 ^ 8 + n / 2 ^ 16 % 2 ^ 8 =
+    digit n (2 ^ 16) (div-div-eq-div-mul n (2 ^ 16) (2 ^ 8)) in
     let top : n / 2 ^ 24 % 2 ^ 8 ≡ n / 2 ^ 24 = omega arith in
     omega (arith, low, high, top)
 
 -- Four bytes, and the word that they are.
-word-bytes : (n : ℕ) {a b c d : ℕ} → n / 2 ^ 24 % 2 ^ 8 ≡ a → n / 2 ^ 16 % 2 ^ 8 ≡ b → n / 2 ^ 8 % 2 ^ 8 ≡ c → n % 2 ^ 8 ≡ d → word n ≡ a ∷ b ∷ c ∷ d ∷ []
+word-bytes : (n : ℕ) {a b c d : ℕ} → n / 2 ^ 24 % 2 ^ 8 ≡ a → n / 2 ^ 16 % 2 ^ 8 ≡ b → n / 2 ^ 8 % 2 ^ 8 ≡ c → n % 2 ^ 8 ≡ d
+    → word n ≡ a ∷ b ∷ c ∷ d ∷ []
 unfolding word
 word-bytes n e f g h = cc
 
-pub word-number : (a b c d : ℕ) → a < byteEnd → b < byteEnd → c < byteEnd → d < byteEnd → word (number (a ∷ b ∷ c ∷ d ∷ [])) ≡ a ∷ b ∷ c ∷ d ∷ []
+pub word-number : (a b c d : ℕ) → a < byteEnd → b < byteEnd → c < byteEnd → d < byteEnd
+    → word (number (a ∷ b ∷ c ∷ d ∷ [])) ≡ a ∷ b ∷ c ∷ d ∷ []
 unfolding numberAfter
 word-number a b c d p q r s = word-bytes (number (a ∷ b ∷ c ∷ d ∷ [])) (omega arith) (omega arith) (omega arith) (omega arith)
 

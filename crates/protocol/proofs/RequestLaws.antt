@@ -6,7 +6,7 @@ use native.Mathlib.Nat.{not-suc-le-zero}
 use native.Mathlib.Numerals.{add-one}
 use mathlib.Core.Logic.{_↔_}
 use mathlib.Core.Path.{_≡_, refl, sym, ap, ap₂, subst, _∙_}
-use mathlib.Core.Bool.{Bool, true, false, cond, _&&_, false≢true, and-eq-true-iff}
+use mathlib.Core.Bool.{Bool, true, false, cond, _&&_}
 use mathlib.Core.List.{List, [], _∷_, _++_, append-assoc, append-nil}
 use borrow.Author.Tests.{eqb-true, eqb-false, ltb-true, ltb-false, leb-true, leb-false, eq-eqb, ne-eqb, lt-ltb, le-ltb, le-leb}
 use lib.ListN.{length, getD, take, drop, length-append, length-take, length-drop}
@@ -16,6 +16,7 @@ use Rattle.protocol.specs.Numbers.{done, unknownCommand, badParameter, D
 use Rattle.protocol.specs.Bytes.{Bytes, every, word, number}
 use Rattle.protocol.specs.Frame.{Received, double, checksum, contentOf, wrap, frame, datagram, readFrame, readDatagram, received, Sized}
 use Rattle.protocol.specs.Request.{Request, nonzero, isPath, asksPath, asksIndex, asksValue, pathFits, indexFits, valueFits, fits, allowance, Allowed, indexPart, valuePart, dataOf, serialForm, udpForm, Asked, noRequest, declined, askedIf, beforeZero, readIndexed, readValued, readShape, readRequest, readPayload, readSerial, readUdp}
+use Rattle.protocol.proofs.TestLaws.{and-left, and-right, every-append, every-one}
 use Rattle.protocol.proofs.ListLaws.{init-last, number-word, word-of-four, bytes-drop, bytes-left, bytes-cons}
 use Rattle.protocol.proofs.FrameLaws.{double-dle, double-lone, readFrame-frame, readFrame-only, frame-injective, readDatagram-datagram, readDatagram-only, datagram-injective, Written}
 
@@ -28,16 +29,21 @@ record Fit (r : Request) : Type 0 where
 fit : (r : Request) → fits r ≡ true → Fit r
 unfolding fits
 fit r h =
-    let p : (pathFits (r .op) (r .path) ≡ true) × ((indexFits (r .op) (r .index) && valueFits (r .op) (r .value)) ≡ true) = and-eq-true-iff _ _ .0 h in
-    let q : (indexFits (r .op) (r .index) ≡ true) × (valueFits (r .op) (r .value) ≡ true) = and-eq-true-iff _ _ .0 (p .1) in
-    record { path = p .0; index = q .0; value = q .1 }
+    let rest : (indexFits (r .op) (r .index) && valueFits (r .op) (r .value)) ≡ true =
+    and-right (pathFits (r .op) (r .path)) _ h in
+    record {
+      path = and-left (pathFits (r .op) (r .path)) _ h;
+      index = and-left (indexFits (r .op) (r .index)) _ rest;
+      value = and-right (indexFits (r .op) (r .index)) _ rest;
+    }
 
 -- An allowed request: its op is one of the table's, and the rest fits.
 pub record Fitting (r : Request) : Type 0 where
   pub op : r .op ≤ opWriteExtended
   pub rest : fits r ≡ true
 
-allowance-by : (r : Request) (t u : Bool) → ltb opWriteExtended (r .op) ≡ t → fits r ≡ u → allowance r ≡ cond t unknownCommand (cond u done badParameter)
+allowance-by : (r : Request) (t u : Bool) → ltb opWriteExtended (r .op) ≡ t → fits r ≡ u
+    → allowance r ≡ cond t unknownCommand (cond u done badParameter)
 unfolding allowance
 allowance-by r t u e f = rw (e, f)
 
@@ -58,7 +64,8 @@ unfolding beforeZero
 zero-parts [] h = absurd (not-suc-le-zero h)
 zero-parts (b ∷ bs) h = go (eqb b 0) refl (zero-parts bs)
   where
-    go : (t : Bool) → eqb b 0 ≡ t → (beforeZero bs < length bs → bs ≡ take (beforeZero bs) bs ++ 0 ∷ drop (suc (beforeZero bs)) bs)
+    go : (t : Bool) → eqb b 0 ≡ t
+        → (beforeZero bs < length bs → bs ≡ take (beforeZero bs) bs ++ 0 ∷ drop (suc (beforeZero bs)) bs)
         → b ∷ bs ≡ take (beforeZero (b ∷ bs)) (b ∷ bs) ++ 0 ∷ drop (suc (beforeZero (b ∷ bs))) (b ∷ bs)
     go true e ih = rw e (ap (λ x. x ∷ bs) (eqb-true b 0 e))
     go false e ih =
@@ -100,10 +107,11 @@ onPath op bs = record { op = op; path = bs; index = 0; value = 0 }
 abbrev onIndex : ℕ → ℕ → List ℕ → Request
 onIndex op value bs = record { op = op; path = take (length bs - 1) bs; index = getD bs (length bs - 1) 0; value = value }
 
-path-shape : (op : ℕ) (bs : List ℕ) → asksIndex op ≡ false → asksValue op ≡ false → fits (onPath op bs) ≡ true → Shape op bs (onPath op bs)
+path-shape : (op : ℕ) (bs : List ℕ) → asksIndex op ≡ false → asksValue op ≡ false → fits (onPath op bs) ≡ true
+    → Shape op bs (onPath op bs)
 path-shape op bs i v h = record { same = refl; rest = h; bytes = rw (i, v) (sym (append-nil bs)) }
 
--- "1 to 16 nonzero bytes"
+-- What a path is, part by part.
 pub record IsPath (bs : List ℕ) : Type 0 where
   pub least : 1 ≤ length bs
   pub most : length bs ≤ maxDepth
@@ -112,23 +120,24 @@ pub record IsPath (bs : List ℕ) : Type 0 where
 pub is-path : (bs : List ℕ) → isPath bs ≡ true → IsPath bs
 unfolding isPath
 is-path bs h =
-    let p : (leb 1 (length bs) ≡ true) × ((leb (length bs) maxDepth && every nonzero bs) ≡ true) = and-eq-true-iff _ _ .0 h in
-    let q : (leb (length bs) maxDepth ≡ true) × (every nonzero bs ≡ true) = and-eq-true-iff _ _ .0 (p .1) in
-    record { least = leb-true 1 (length bs) (p .0); most = leb-true (length bs) maxDepth (q .0); nonzeros = q .1 }
-
-one-nonzero : (b : ℕ) → nonzero b ≡ true → every nonzero (b ∷ []) ≡ true
-unfolding every
-one-nonzero b h = and-eq-true-iff (nonzero b) true .1 (h, refl)
+    let rest : (leb (length bs) maxDepth && every nonzero bs) ≡ true = and-right (leb 1 (length bs)) _ h in
+    record {
+      least = leb-true 1 (length bs) (and-left (leb 1 (length bs)) _ h);
+      most = leb-true (length bs) maxDepth (and-left (leb (length bs) maxDepth) _ rest);
+      nonzeros = and-right (leb (length bs) maxDepth) _ rest;
+    }
 
 asks-path : (op : ℕ) → asksIndex op ≡ true → asksPath op ≡ true
 asks-path op h = lt-ltb opDetect op (omega (arith, ltb-true opNode op h))
 
-index-bytes : (op value : ℕ) (bs : List ℕ) → asksIndex op ≡ true → fits (onIndex op value bs) ≡ true → bs ≡ take (length bs - 1) bs ++ getD bs (length bs - 1) 0 ∷ []
+index-bytes : (op value : ℕ) (bs : List ℕ) → asksIndex op ≡ true → fits (onIndex op value bs) ≡ true
+    → bs ≡ take (length bs - 1) bs ++ getD bs (length bs - 1) 0 ∷ []
 index-bytes op value bs i h =
     let p : isPath (take (length bs - 1) bs) ≡ true = rw (asks-path op i) at (fit (onIndex op value bs) h .path) in
     init-last bs (omega (arith, is-path (take (length bs - 1) bs) p .least, length-take (length bs - 1) bs))
 
-index-shape : (op : ℕ) (bs : List ℕ) → asksIndex op ≡ true → asksValue op ≡ false → fits (onIndex op 0 bs) ≡ true → Shape op bs (onIndex op 0 bs)
+index-shape : (op : ℕ) (bs : List ℕ) → asksIndex op ≡ true → asksValue op ≡ false → fits (onIndex op 0 bs) ≡ true
+    → Shape op bs (onIndex op 0 bs)
 index-shape op bs i v h = record { same = refl; rest = h; bytes = rw (i, v) (index-bytes op 0 bs i h) }
 
 asks-index : (op : ℕ) → asksValue op ≡ true → asksIndex op ≡ true
@@ -138,7 +147,8 @@ value-shape : (op : ℕ) (bs front back : List ℕ) → asksValue op ≡ true �
     → fits (onIndex op (number back) front) ≡ true → Shape op bs (onIndex op (number back) front)
 value-shape op bs front back v parted whole h =
     let i : asksIndex op ≡ true = asks-index op v in
-    let split : front ≡ take (length front - 1) front ++ getD front (length front - 1) 0 ∷ [] = index-bytes op (number back) front i h in
+    let split : front ≡ take (length front - 1) front ++ getD front (length front - 1) 0 ∷ [] =
+    index-bytes op (number back) front i h in
     record {
       same = refl;
       rest = h;
@@ -154,17 +164,20 @@ record Read (op : ℕ) (bs : List ℕ) (a : Asked) : Type 0 where
   is : a ≡ asked (a .request)
   shape : Shape op bs (a .request)
 
-read : (op : ℕ) (bs : List ℕ) (r : Request) (a : Asked) → a ≡ askedIf r → a .number ≡ done → (fits r ≡ true → Shape op bs r) → Read op bs a
+read : (op : ℕ) (bs : List ℕ) (r : Request) (a : Asked) → a ≡ askedIf r → a .number ≡ done → (fits r ≡ true → Shape op bs r)
+    → Read op bs a
 read op bs r a e h shape =
     let p : (askedIf r ≡ asked r) × (fits r ≡ true) = askedIf-only r (sym (ap (λ a. a .number) e) ∙ h) in
     rw (e ∙ p .0) (record { is = refl; shape = shape (p .1) })
 
 readValued-by : (op : ℕ) (bs : List ℕ) (t : Bool) → eqb (length (drop (suc (beforeZero bs)) bs)) 4 ≡ t
-    → readValued op bs ≡ cond t (askedIf (onIndex op (number (drop (suc (beforeZero bs)) bs)) (take (beforeZero bs) bs))) (declined badParameter)
+    → readValued op bs
+    ≡ cond t (askedIf (onIndex op (number (drop (suc (beforeZero bs)) bs)) (take (beforeZero bs) bs))) (declined badParameter)
 unfolding readValued readIndexed
 readValued-by op bs t e = rw e
 
-readValued-only : (op : ℕ) (bs : List ℕ) → Bytes bs → asksValue op ≡ true → readValued op bs .number ≡ done → Read op bs (readValued op bs)
+readValued-only : (op : ℕ) (bs : List ℕ) → Bytes bs → asksValue op ≡ true → readValued op bs .number ≡ done
+    → Read op bs (readValued op bs)
 readValued-only op bs all v h = go (eqb (length back) 4) refl
   where
     back : List ℕ
@@ -208,23 +221,28 @@ pub record Says (form : Request → List ℕ) (s : List ℕ) (a : Asked) : Type 
 abbrev isCommand : ℕ → ℕ → Bool
 isCommand c op = eqb c PDI && leb op opWriteExtended
 
-readRequest-by : (c op : ℕ) (bs : List ℕ) (t : Bool) → isCommand c op ≡ t → readRequest (c ∷ op ∷ bs) ≡ cond t (readShape op bs) (declined unknownCommand)
+readRequest-by : (c op : ℕ) (bs : List ℕ) (t : Bool) → isCommand c op ≡ t
+    → readRequest (c ∷ op ∷ bs) ≡ cond t (readShape op bs) (declined unknownCommand)
 unfolding readRequest
 readRequest-by c op bs t e = rw e
 
-readRequest-one : (c : ℕ) (t : Bool) → eqb c PDI ≡ t → readRequest (c ∷ []) ≡ cond t (declined badParameter) (declined unknownCommand)
+readRequest-one : (c : ℕ) (t : Bool) → eqb c PDI ≡ t
+    → readRequest (c ∷ []) ≡ cond t (declined badParameter) (declined unknownCommand)
 unfolding readRequest
 readRequest-one c t e = rw e
 
 says : (c op : ℕ) (bs : List ℕ) (a : Asked) → isCommand c op ≡ true → Read op bs a → Says dataOf (c ∷ op ∷ bs) a
 unfolding dataOf
 says c op bs a e r =
-    let p : (eqb c PDI ≡ true) × (leb op opWriteExtended ≡ true) = and-eq-true-iff (eqb c PDI) (leb op opWriteExtended) .0 e in
+    let known : leb op opWriteExtended ≡ true = and-right (eqb c PDI) (leb op opWriteExtended) e in
+    let first : c ≡ PDI = eqb-true c PDI (and-left (eqb c PDI) (leb op opWriteExtended) e) in
     record {
       is = r .is;
-      allowed = allowed (a .request) (record { op = rw (r .shape .same) (leb-true op opWriteExtended (p .1)); rest = r .shape .rest });
+      allowed =
+          allowed (a .request)
+          (record { op = rw (r .shape .same) (leb-true op opWriteExtended known); rest = r .shape .rest });
       written =
-          ap₂ (λ x y. x ∷ y ∷ bs) (eqb-true c PDI (p .0)) (sym (r .shape .same))
+          ap₂ (λ x y. x ∷ y ∷ bs) first (sym (r .shape .same))
           ∙ ap (λ l. PDI ∷ a .request .op ∷ l) (r .shape .bytes);
     }
 
@@ -246,32 +264,27 @@ readRequest-only (c ∷ op ∷ bs) all h = go (isCommand c op) refl
         (says c op bs (readShape op bs) e (readShape-only op bs (λ i. all (suc (suc i))) (sym (ap (λ a. a .number) is) ∙ h)))
 
 -- The other way: the data of an allowed request is read as that request.
-every-append : (x y : List ℕ) → every nonzero x ≡ true → every nonzero y ≡ true → every nonzero (x ++ y) ≡ true
-unfolding every
-every-append [] y h k = k
-every-append (b ∷ x) y h k =
-    let p : (nonzero b ≡ true) × (every nonzero x ≡ true) = and-eq-true-iff (nonzero b) (every nonzero x) .0 h in
-    and-eq-true-iff (nonzero b) (every nonzero (x ++ y)) .1 (p .0, every-append x y (p .1) k)
-
 not-zero : (b : ℕ) → nonzero b ≡ true → eqb b 0 ≡ false
-not-zero b h = ne-eqb b 0 (λ e. omega (arith, e, ltb-true 0 b (and-eq-true-iff (ltb 0 b) (ltb b byteEnd) .0 h .0)))
+not-zero b h = ne-eqb b 0 (λ e. omega (arith, e, ltb-true 0 b (and-left (ltb 0 b) (ltb b byteEnd) h)))
 
 zero-at : (x y : List ℕ) → every nonzero x ≡ true → beforeZero (x ++ 0 ∷ y) ≡ length x
 unfolding beforeZero every
 zero-at [] y h = refl
 zero-at (b ∷ x) y h =
-    let p : (nonzero b ≡ true) × (every nonzero x ≡ true) = and-eq-true-iff (nonzero b) (every nonzero x) .0 h in
-    rw (not-zero b (p .0)) (ap suc (zero-at x y (p .1)))
+    rw (not-zero b (and-left (nonzero b) (every nonzero x) h))
+    (ap suc (zero-at x y (and-right (nonzero b) (every nonzero x) h)))
 
 -- Path and index, put together and taken apart.
-index-back : (op v : ℕ) (path : List ℕ) (index : ℕ) → onIndex op v (path ++ index ∷ []) ≡ record { op = op; path = path; index = index; value = v }
+index-back : (op v : ℕ) (path : List ℕ) (index : ℕ)
+    → onIndex op v (path ++ index ∷ []) ≡ record { op = op; path = path; index = index; value = v }
 index-back op v path index =
     let n : length path ≡ length (path ++ index ∷ []) - 1 = omega (arith, length-append path (index ∷ [])) in
     ap₂ (λ p i. record { op = op; path = p; index = i; value = v })
     (take-at path (index ∷ []) (length (path ++ index ∷ []) - 1) n)
     (getD-at path index [] 0 (length (path ++ index ∷ []) - 1) n)
 
-value-back : (op v : ℕ) (front : List ℕ) → every nonzero front ≡ true → v < wordEnd → readValued op (front ++ 0 ∷ word v) ≡ askedIf (onIndex op v front)
+value-back : (op v : ℕ) (front : List ℕ) → every nonzero front ≡ true → v < wordEnd
+    → readValued op (front ++ 0 ∷ word v) ≡ askedIf (onIndex op v front)
 unfolding word
 value-back op v front h k =
     let s : List ℕ = front ++ 0 ∷ word v in
@@ -294,9 +307,12 @@ valued-back r h v =
     let index : nonzero (r .index) ≡ true = rw i at (f .index) in
     let value : ltb (r .value) wordEnd ≡ true = rw v at (f .value) in
     let front : List ℕ = r .path ++ r .index ∷ [] in
-    let bytes : body r ≡ front ++ 0 ∷ word (r .value) = rw (i, v) (sym (append-assoc (r .path) (r .index ∷ []) (0 ∷ word (r .value)))) in
+    let nonzeros : every nonzero front ≡ true =
+    every-append nonzero (r .path) (r .index ∷ []) (is-path (r .path) path .nonzeros) (every-one nonzero (r .index) index) in
+    let bytes : body r ≡ front ++ 0 ∷ word (r .value) =
+    rw (i, v) (sym (append-assoc (r .path) (r .index ∷ []) (0 ∷ word (r .value)))) in
     ap (readValued (r .op)) bytes
-    ∙ value-back (r .op) (r .value) front (every-append (r .path) (r .index ∷ []) (is-path (r .path) path .nonzeros) (one-nonzero (r .index) index)) (ltb-true (r .value) wordEnd value)
+    ∙ value-back (r .op) (r .value) front nonzeros (ltb-true (r .value) wordEnd value)
     ∙ ap askedIf (index-back (r .op) (r .value) (r .path) (r .index))
     ∙ asked-back r h
 
@@ -306,18 +322,23 @@ no-value r h v = let e : eqb (r .value) 0 ≡ true = rw v at (fit r h .value) in
 no-index : (r : Request) → fits r ≡ true → asksIndex (r .op) ≡ false → r .index ≡ 0
 no-index r h i = let e : eqb (r .index) 0 ≡ true = rw i at (fit r h .index) in eqb-true (r .index) 0 e
 
-indexed-back : (r : Request) → fits r ≡ true → asksIndex (r .op) ≡ true → asksValue (r .op) ≡ false → askedIf (onIndex (r .op) 0 (body r)) ≡ asked r
+indexed-back : (r : Request) → fits r ≡ true → asksIndex (r .op) ≡ true → asksValue (r .op) ≡ false
+    → askedIf (onIndex (r .op) 0 (body r)) ≡ asked r
 indexed-back r h i v =
     let bytes : body r ≡ r .path ++ r .index ∷ [] = rw (i, v) in
     ap (λ l. askedIf (onIndex (r .op) 0 l)) bytes
-    ∙ ap askedIf (index-back (r .op) 0 (r .path) (r .index) ∙ ap (λ n. record { op = r .op; path = r .path; index = r .index; value = n }) (sym (no-value r h v)))
+    ∙ ap askedIf (index-back (r .op) 0 (r .path) (r .index))
+    ∙ ap (λ n. askedIf (record { op = r .op; path = r .path; index = r .index; value = n })) (sym (no-value r h v))
     ∙ asked-back r h
 
-path-back : (r : Request) → fits r ≡ true → asksIndex (r .op) ≡ false → asksValue (r .op) ≡ false → askedIf (onPath (r .op) (body r)) ≡ asked r
+path-back : (r : Request) → fits r ≡ true → asksIndex (r .op) ≡ false → asksValue (r .op) ≡ false
+    → askedIf (onPath (r .op) (body r)) ≡ asked r
 path-back r h i v =
     let bytes : body r ≡ r .path = rw (i, v) (append-nil (r .path)) in
     ap (λ l. askedIf (onPath (r .op) l)) bytes
-    ∙ ap₂ (λ k n. askedIf (record { op = r .op; path = r .path; index = k; value = n })) (sym (no-index r h i)) (sym (no-value r h v))
+    ∙ ap₂ (λ k n. askedIf (record { op = r .op; path = r .path; index = k; value = n }))
+    (sym (no-index r h i))
+    (sym (no-value r h v))
     ∙ asked-back r h
 
 shape-back : (r : Request) → fits r ≡ true → readShape (r .op) (body r) ≡ asked r
@@ -344,7 +365,9 @@ path-most r h = go (asksPath (r .op)) refl
   where
     go : (t : Bool) → asksPath (r .op) ≡ t → length (r .path) ≤ maxDepth
     go true e = let p : isPath (r .path) ≡ true = rw e at (fit r h .path) in is-path (r .path) p .most
-    go false e = let p : eqb (length (r .path)) 0 ≡ true = rw e at (fit r h .path) in omega (arith, eqb-true (length (r .path)) 0 p)
+    go false e =
+        let p : eqb (length (r .path)) 0 ≡ true = rw e at (fit r h .path) in
+        omega (arith, eqb-true (length (r .path)) 0 p)
 
 part-most : (t : Bool) (bs : List ℕ) → length (cond t bs []) ≤ length bs
 part-most true bs = omega arith
@@ -362,7 +385,8 @@ dataOf-size r h =
     let index : length (indexPart r) ≤ 1 = part-most (asksIndex (r .op)) (r .index ∷ []) in
     let value : length (valuePart r) ≤ 5 = value-most r in
     let joined : length (body r) ≡ length (r .path) + (length (indexPart r) + length (valuePart r)) =
-    length-append (r .path) (indexPart r ++ valuePart r) ∙ ap (λ n. length (r .path) + n) (length-append (indexPart r) (valuePart r)) in
+    length-append (r .path) (indexPart r ++ valuePart r)
+    ∙ ap (λ n. length (r .path) + n) (length-append (indexPart r) (valuePart r)) in
     (omega arith, omega (arith, joined))
 
 pub dataOf-sized : (r : Request) → Allowed r → Sized (dataOf r)
@@ -374,7 +398,8 @@ record Carrier (form : List ℕ → List ℕ) (reads : List ℕ → Received) : 
   only : (s : List ℕ) → reads s .number ≡ done → Written form s (reads s .payload)
   bytes : (d : List ℕ) → Bytes (form d) → Bytes d
 
-readPayload-by : (p : Received) (t : Bool) → eqb (p .number) done ≡ t → readPayload p ≡ cond t (readRequest (p .payload)) (declined (p .number))
+readPayload-by : (p : Received) (t : Bool) → eqb (p .number) done ≡ t
+    → readPayload p ≡ cond t (readRequest (p .payload)) (declined (p .number))
 unfolding readPayload
 readPayload-by p t e = rw e
 
@@ -383,7 +408,8 @@ module _ (form : List ℕ → List ℕ) (reads : List ℕ → Received) (carrier
   unfolding readPayload
   carried-back r h = ap readPayload (carrier .back (dataOf r) (dataOf-sized r h)) ∙ readRequest-dataOf r h
 
-  carried-only : (s : List ℕ) → Bytes s → readPayload (reads s) .number ≡ done → Says (λ r. form (dataOf r)) s (readPayload (reads s))
+  carried-only : (s : List ℕ) → Bytes s → readPayload (reads s) .number ≡ done
+      → Says (λ r. form (dataOf r)) s (readPayload (reads s))
   carried-only s all h = go (eqb (reads s .number) done) refl
     where
       go : (t : Bool) → eqb (reads s .number) done ≡ t → Says (λ r. form (dataOf r)) s (readPayload (reads s))
@@ -393,8 +419,9 @@ module _ (form : List ℕ → List ℕ) (reads : List ℕ → Received) (carrier
       go true e =
           let is : readPayload (reads s) ≡ readRequest (reads s .payload) = readPayload-by (reads s) true e in
           let w : Written form s (reads s .payload) = carrier .only s (eqb-true (reads s .number) done e) in
+          let all′ : Bytes (reads s .payload) = carrier .bytes (reads s .payload) (subst Bytes (w .written) all) in
           let d : Says dataOf (reads s .payload) (readRequest (reads s .payload)) =
-          readRequest-only (reads s .payload) (carrier .bytes (reads s .payload) (subst Bytes (w .written) all)) (sym (ap (λ a. a .number) is) ∙ h) in
+          readRequest-only (reads s .payload) all′ (sym (ap (λ a. a .number) is) ∙ h) in
           subst (Says (λ r. form (dataOf r)) s) (sym is)
           (record { is = d .is; allowed = d .allowed; written = w .written ∙ ap form (d .written) })
 
@@ -423,8 +450,8 @@ bytes-undouble (b ∷ c) all = go (eqb b DLE) refl (bytes-undouble c)
 frame-bytes : (a : ℕ) (d : List ℕ) → Bytes (frame a d) → Bytes d
 unfolding frame wrap contentOf
 frame-bytes a d all =
-    let content : Bytes (a ∷ (d ++ checksum (a ∷ d) ∷ [])) =
-    bytes-undouble (a ∷ (d ++ checksum (a ∷ d) ∷ [])) (bytes-left (double (a ∷ (d ++ checksum (a ∷ d) ∷ []))) (DLE ∷ ETX ∷ []) (λ i. all (suc (suc i)))) in
+    let c : List ℕ = a ∷ (d ++ checksum (a ∷ d) ∷ []) in
+    let content : Bytes c = bytes-undouble c (bytes-left (double c) (DLE ∷ ETX ∷ []) (λ i. all (suc (suc i)))) in
     bytes-left d (checksum (a ∷ d) ∷ []) (λ i. content (suc i))
 
 serial : (a : ℕ) → Carrier (frame a) (readFrame a)
@@ -446,7 +473,8 @@ unfolding readUdp udpForm
 udp-exact s all r = exact datagram readDatagram udp s all r
 
 -- No string is the written form of two requests, nor of one for two addresses.
-pub serialForm-injective : (a a′ : ℕ) (r r′ : Request) → Allowed r → Allowed r′ → serialForm a r ≡ serialForm a′ r′ → (a ≡ a′) × (r ≡ r′)
+pub serialForm-injective : (a a′ : ℕ) (r r′ : Request) → Allowed r → Allowed r′ → serialForm a r ≡ serialForm a′ r′
+    → (a ≡ a′) × (r ≡ r′)
 unfolding serialForm
 serialForm-injective a a′ r r′ h h′ e =
     let p : (a ≡ a′) × (dataOf r ≡ dataOf r′) = frame-injective a a′ (dataOf r) (dataOf r′) e in

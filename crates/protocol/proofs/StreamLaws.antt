@@ -27,7 +27,8 @@ handedUp-append a s n [] y = ap (λ m. handedUpFrom a s m y) (sym (add-zero n))
 handedUp-append a s n (b ∷ x) y =
     ap (λ l. handUp a (suc n) (step s b .event) ++ l)
     (handedUp-append a (step s b .after) (suc n) x y
-    ∙ ap (λ m. handedUpFrom a (step s b .after) (suc n) x ++ handedUpFrom a (after (step s b .after) x) m y) (suc-add n (length x) ∙ sym (add-suc n (length x))))
+    ∙ ap (λ m. handedUpFrom a (step s b .after) (suc n) x ++ handedUpFrom a (after (step s b .after) x) m y)
+    (suc-add n (length x) ∙ sym (add-suc n (length x))))
     ∙ sym (append-assoc (handUp a (suc n) (step s b .event)) _ _)
 
 -- No 10h waits.
@@ -63,7 +64,8 @@ unfolding after double
 double-steady [] s h = h
 double-steady (b ∷ bs) s h = go (eqb b DLE) refl (double-steady bs)
   where
-    go : (t : Bool) → eqb b DLE ≡ t → ((s : Stream) → steady s ≡ true → steady (after s (double bs)) ≡ true) → steady (after s (double (b ∷ bs))) ≡ true
+    go : (t : Bool) → eqb b DLE ≡ t → ((s : Stream) → steady s ≡ true → steady (after s (double bs)) ≡ true)
+        → steady (after s (double (b ∷ bs))) ≡ true
     go true e ih = rw (double-dle b bs e) (ih (after s (DLE ∷ DLE ∷ [])) (pair-steady s h))
     go false e ih = rw (double-lone b bs e) (ih (step s b .after) (lone-steady s b e h))
 
@@ -104,6 +106,15 @@ double-append (b ∷ c) d = go (eqb b DLE) (double-append c d)
     go true ih = ap (λ l. DLE ∷ DLE ∷ l) ih
     go false ih = ap (λ l. b ∷ l) ih
 
+-- One content byte more at the end.
+double-snoc-lone : (c : List ℕ) (b : ℕ) → eqb b DLE ≡ false → double (c ++ b ∷ []) ≡ double c ++ b ∷ []
+double-snoc-lone c b e =
+    double-append c (b ∷ []) ∙ ap (λ l. double c ++ l) (double-lone b [] e ∙ ap (λ l. b ∷ l) double-nil)
+
+double-snoc-dle : (c : List ℕ) → double (c ++ DLE ∷ []) ≡ double c ++ DLE ∷ DLE ∷ []
+double-snoc-dle c =
+    double-append c (DLE ∷ []) ∙ ap (λ l. double c ++ l) (double-dle DLE [] refl ∙ ap (λ l. DLE ∷ DLE ∷ l) double-nil)
+
 -- Inside a frame that has room, doubled content is collected and nothing is handed up.
 pub record Collected (a : ℕ) (c d : List ℕ) (n : ℕ) : Type 0 where
   pub state : after (inside false c) (double d) ≡ inside false (c ++ d)
@@ -113,7 +124,8 @@ collect-on : (c : List ℕ) (b : ℕ) → length c < maxContent → collect c b 
 unfolding collect
 collect-on c b h = rw (lt-ltb (length c) maxContent h)
 
-step-lone : (c : List ℕ) (b : ℕ) → eqb b DLE ≡ false → length c < maxContent → step (inside false c) b ≡ on (inside false (c ++ b ∷ []))
+step-lone : (c : List ℕ) (b : ℕ) → eqb b DLE ≡ false → length c < maxContent
+    → step (inside false c) b ≡ on (inside false (c ++ b ∷ []))
 unfolding step
 step-lone c b e h = rw e (collect-on c b h)
 
@@ -126,7 +138,8 @@ quiet-after : (s s′ : Stream) (b : ℕ) (bs : List ℕ) → step s b ≡ on s�
 unfolding after
 quiet-after s s′ b bs e = ap (λ r. after (r .after) bs) e
 
-quiet-silent : (a : ℕ) (s s′ : Stream) (n b : ℕ) (bs : List ℕ) → step s b ≡ on s′ → handedUpFrom a s n (b ∷ bs) ≡ handedUpFrom a s′ (suc n) bs
+quiet-silent : (a : ℕ) (s s′ : Stream) (n b : ℕ) (bs : List ℕ) → step s b ≡ on s′
+    → handedUpFrom a s n (b ∷ bs) ≡ handedUpFrom a s′ (suc n) bs
 unfolding handedUpFrom handUp
 quiet-silent a s s′ n b bs e = ap (λ r. handUp a (suc n) (r .event) ++ handedUpFrom a (r .after) (suc n) bs) e
 
@@ -144,20 +157,35 @@ collected a (b ∷ bs) c n h = go (eqb b DLE) refl (collected a bs (c ++ b ∷ [
     joined : inside false ((c ++ b ∷ []) ++ bs) ≡ inside false (c ++ b ∷ bs)
     joined = ap (inside false) (append-assoc c (b ∷ []) bs)
 
-    go : (t : Bool) → eqb b DLE ≡ t → ((n : ℕ) → length (c ++ b ∷ []) + length bs ≤ maxContent → Collected a (c ++ b ∷ []) bs n) → Collected a c (b ∷ bs) n
+    go : (t : Bool) → eqb b DLE ≡ t
+        → ((n : ℕ) → length (c ++ b ∷ []) + length bs ≤ maxContent → Collected a (c ++ b ∷ []) bs n) → Collected a c (b ∷ bs) n
     go true e ih =
         let pair : step (inside true c) DLE ≡ on (inside false (c ++ b ∷ [])) =
         step-pair c room ∙ ap (λ x. on (inside false (c ++ x ∷ []))) (sym (eqb-true b DLE e)) in
         let r : Collected a (c ++ b ∷ []) bs (suc (suc n)) = ih (suc (suc n)) fits in
         record {
-          state = ap (after (inside false c)) (double-dle b bs e) ∙ quiet-after (inside true c) _ DLE (double bs) pair ∙ r .state ∙ joined;
-          silent = ap (handedUpFrom a (inside false c) n) (double-dle b bs e) ∙ quiet-silent a (inside true c) _ (suc n) DLE (double bs) pair ∙ r .silent;
+          state =
+              ap (after (inside false c)) (double-dle b bs e)
+              ∙ quiet-after (inside true c) _ DLE (double bs) pair
+              ∙ r .state
+              ∙ joined;
+          silent =
+              ap (handedUpFrom a (inside false c) n) (double-dle b bs e)
+              ∙ quiet-silent a (inside true c) _ (suc n) DLE (double bs) pair
+              ∙ r .silent;
         }
     go false e ih =
         let r : Collected a (c ++ b ∷ []) bs (suc n) = ih (suc n) fits in
         record {
-          state = ap (after (inside false c)) (double-lone b bs e) ∙ quiet-after (inside false c) _ b (double bs) (step-lone c b e room) ∙ r .state ∙ joined;
-          silent = ap (handedUpFrom a (inside false c) n) (double-lone b bs e) ∙ quiet-silent a (inside false c) _ n b (double bs) (step-lone c b e room) ∙ r .silent;
+          state =
+              ap (after (inside false c)) (double-lone b bs e)
+              ∙ quiet-after (inside false c) _ b (double bs) (step-lone c b e room)
+              ∙ r .state
+              ∙ joined;
+          silent =
+              ap (handedUpFrom a (inside false c) n) (double-lone b bs e)
+              ∙ quiet-silent a (inside false c) _ n b (double bs) (step-lone c b e room)
+              ∙ r .silent;
         }
 
 -- What a frame closed at an end hands up.
@@ -169,7 +197,8 @@ unfolding wrap
 length-wrap c = omega (arith, length-append (double c) (DLE ∷ ETX ∷ []))
 
 -- From outside, a whole frame hands up one closed frame, with its content, at its last byte.
-pub handedUp-wrap : (a n : ℕ) (c : List ℕ) → length c ≤ maxContent → handedUpFrom a begin n (wrap c) ≡ closedAt a c (n + length (wrap c)) ∷ []
+pub handedUp-wrap : (a n : ℕ) (c : List ℕ) → length c ≤ maxContent
+    → handedUpFrom a begin n (wrap c) ≡ closedAt a c (n + length (wrap c)) ∷ []
 unfolding wrap handedUpFrom handUp step
 handedUp-wrap a n c h =
     let r : Collected a [] c (suc (suc n)) = collected a c [] (suc (suc n)) (omega arith) in
@@ -180,20 +209,22 @@ handedUp-wrap a n c h =
     ∙ ap (λ e. closedAt a c e ∷ []) end
 
 -- The frame of data of 1 to 256 bytes, for its own address: the data is handed up.
-pub handedUp-frame : (a n : ℕ) (d : List ℕ) → Sized d → handedUpFrom a begin n (frame a d) ≡ record { frame = received d; end = n + length (frame a d) } ∷ []
+pub handedUp-frame : (a n : ℕ) (d : List ℕ) → Sized d
+    → handedUpFrom a begin n (frame a d) ≡ record { frame = received d; end = n + length (frame a d) } ∷ []
 unfolding frame
 handedUp-frame a n d h =
     handedUp-wrap a n (contentOf a d) (omega (arith, h .most, length-contentOf a d))
     ∙ ap (λ r. record { frame = r; end = n + length (frame a d) } ∷ []) (judge-contentOf a d (h .least))
 
--- "A good frame for this address, sent twice in a row after any noise, is handed up at the second sending at the latest."
+-- The second sending: after any bytes, a good frame for the address that is sent twice in a row is handed up by its end.
 pub second-sending : (a : ℕ) (noise d : List ℕ) → Sized d
     → handedUp a ((noise ++ frame a d) ++ frame a d)
     ≡ handedUp a (noise ++ frame a d) ++ record { frame = received d; end = length ((noise ++ frame a d) ++ frame a d) } ∷ []
 second-sending a noise d h =
     let once : List ℕ = noise ++ frame a d in
     let outside : after begin once ≡ begin = after-append begin noise (frame a d) ∙ after-frame (after begin noise) a d in
-    let end : 0 + length once + length (frame a d) ≡ length (once ++ frame a d) = omega (arith, length-append once (frame a d)) in
+    let end : 0 + length once + length (frame a d) ≡ length (once ++ frame a d) =
+    omega (arith, length-append once (frame a d)) in
     handedUp-append a begin 0 once (frame a d)
     ∙ ap (λ s. handedUp a once ++ handedUpFrom a s (0 + length once) (frame a d)) outside
     ∙ ap (λ l. handedUp a once ++ l) (handedUp-frame a (0 + length once) d h)
@@ -238,7 +269,8 @@ opening-ends bs front b h = go (eqb b STX) refl
     )
     go false e = tt
 
-lone-ends : (c bs front : List ℕ) (b : ℕ) → bs ≡ front ++ (DLE ∷ STX ∷ double c) → Ends (step (inside false c) b .after) (bs ++ b ∷ [])
+lone-ends : (c bs front : List ℕ) (b : ℕ) → bs ≡ front ++ (DLE ∷ STX ∷ double c)
+    → Ends (step (inside false c) b .after) (bs ++ b ∷ [])
 unfolding step
 lone-ends c bs front b h = go (eqb b DLE) refl
   where
@@ -247,14 +279,18 @@ lone-ends c bs front b h = go (eqb b DLE) refl
 
     go : (t : Bool) → eqb b DLE ≡ t → Ends (cond t (on (inside true c)) (collect c b) .after) (bs ++ b ∷ [])
     go true e = (front, more ∙ ap (λ x. front ++ (DLE ∷ STX ∷ (double c ++ x ∷ []))) (eqb-true b DLE e))
-    go false e = collect-ends c front (bs ++ b ∷ []) b (more ∙ ap (λ l. front ++ (DLE ∷ STX ∷ l)) (sym (double-append c (b ∷ []) ∙ ap (λ l. double c ++ l) (double-lone b [] e ∙ ap (λ l. b ∷ l) double-nil))))
+    go false e =
+        collect-ends c front (bs ++ b ∷ []) b (more ∙ ap (λ l. front ++ (DLE ∷ STX ∷ l)) (sym (double-snoc-lone c b e)))
 
-pair-ends : (c bs front : List ℕ) (b : ℕ) → bs ≡ front ++ (DLE ∷ STX ∷ (double c ++ DLE ∷ [])) → Ends (step (inside true c) b .after) (bs ++ b ∷ [])
+pair-ends : (c bs front : List ℕ) (b : ℕ) → bs ≡ front ++ (DLE ∷ STX ∷ (double c ++ DLE ∷ []))
+    → Ends (step (inside true c) b .after) (bs ++ b ∷ [])
 unfolding step
 pair-ends c bs front b h = go (eqb b DLE) refl (eqb b ETX) (eqb b STX) refl
   where
     more : bs ++ b ∷ [] ≡ front ++ (DLE ∷ STX ∷ (double c ++ DLE ∷ b ∷ []))
-    more = snoc bs front (DLE ∷ STX ∷ (double c ++ DLE ∷ [])) b h ∙ ap (λ l. front ++ (DLE ∷ STX ∷ l)) (append-assoc (double c) (DLE ∷ []) (b ∷ []))
+    more =
+        snoc bs front (DLE ∷ STX ∷ (double c ++ DLE ∷ [])) b h
+        ∙ ap (λ l. front ++ (DLE ∷ STX ∷ l)) (append-assoc (double c) (DLE ∷ []) (b ∷ []))
 
     go : (t : Bool) → eqb b DLE ≡ t → (u v : Bool) → eqb b STX ≡ v
         → Ends (cond t (collect c DLE) (cond u (ends (closed c)) (cond v (on (inside false [])) (ends droppedPair))) .after) (bs ++ b ∷ [])
@@ -262,7 +298,7 @@ pair-ends c bs front b h = go (eqb b DLE) refl (eqb b ETX) (eqb b STX) refl
         collect-ends c front (bs ++ b ∷ []) DLE
         (more
         ∙ ap (λ x. front ++ (DLE ∷ STX ∷ (double c ++ DLE ∷ x ∷ []))) (eqb-true b DLE e)
-        ∙ ap (λ l. front ++ (DLE ∷ STX ∷ l)) (sym (double-append c (DLE ∷ []) ∙ ap (λ l. double c ++ l) (double-dle DLE [] refl ∙ ap (λ l. DLE ∷ DLE ∷ l) double-nil))))
+        ∙ ap (λ l. front ++ (DLE ∷ STX ∷ l)) (sym (double-snoc-dle c)))
     go false e true v g = tt
     go false e false true g = (
       front ++ (DLE ∷ STX ∷ double c),
@@ -333,8 +369,9 @@ pub closed-stands : (bs : List ℕ) (b : ℕ) (c : List ℕ) → step (after beg
 unfolding wrap
 closed-stands bs b c h =
     let p : (after begin bs ≡ inside true c) × (b ≡ ETX) = closing (after begin bs) b c h in
-    let e : (front : List ℕ) × (bs ≡ front ++ (DLE ∷ STX ∷ (double c ++ DLE ∷ []))) = subst (λ s. Ends s bs) (p .0) (bytes-end bs) in (
+    let e : Ends (inside true c) bs = subst (λ s. Ends s bs) (p .0) (bytes-end bs) in (
       e .0,
       snoc bs (e .0) (DLE ∷ STX ∷ (double c ++ DLE ∷ [])) b (e .1)
-          ∙ ap (λ l. e .0 ++ (DLE ∷ STX ∷ l)) (append-assoc (double c) (DLE ∷ []) (b ∷ []) ∙ ap (λ x. double c ++ DLE ∷ x ∷ []) (p .1)),
+          ∙ ap (λ l. e .0 ++ (DLE ∷ STX ∷ l)) (append-assoc (double c) (DLE ∷ []) (b ∷ []))
+          ∙ ap (λ x. e .0 ++ (DLE ∷ STX ∷ (double c ++ DLE ∷ x ∷ []))) (p .1),
     )

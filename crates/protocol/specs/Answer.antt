@@ -1,4 +1,4 @@
--- Document 01, "Requests and replies" and "Numbers returned": what the box answers to a request's data.
+-- 01, Requests and replies, and Numbers returned: what the box answers to a request's data.
 use Prim.Native.Nat.{ℕ}
 use mathlib.Core.Bool.{Bool, true, false, cond, _&&_}
 use mathlib.Core.List.{List, [], _∷_, _++_}
@@ -10,8 +10,8 @@ use Rattle.protocol.specs.Bytes.{half, word, text, texts, atMost}
 use Rattle.protocol.specs.Request.{Request, Asked, readRequest}
 use Rattle.protocol.specs.Tree.{Node, Property, Tree, Cell, canRead, canWrite, isSigned, childrenOf, propertiesOf, propertyOf, nodeAt, nodeIn, propertyIn, cellIn, readable}
 
--- The range rule. "Type 1 with min and max both 0 has no range; otherwise the value lies in min..max, both ends allowed,
--- signed exactly when format bit 15 is set. Type 2 allows 0..max, always unsigned, also where max is 0."
+-- The range rule. Type 1: any value where min and max are both 0, else from min to max, both included, in the order that
+-- format bit 15 gives. Type 2: from 0 to max, unsigned, a max of 0 included.
 abbrev pub within : Bool → Property → ℕ → Bool
 within signed p v = atMost signed (p .min) v && atMost signed v (p .max)
 
@@ -25,19 +25,19 @@ inRange p v =
 pub data Outcome : Type 0 where
   saved taken readOnly outOfRange : Outcome
 
--- "Read only" (no write attribute) or "Range", tested in that order. "An action takes any value."
+-- The tests of a write in their order: no write attribute, then the range; an action has no range.
 unfoldable pub outcome : Property → ℕ → Outcome
 outcome p v =
     cond (canWrite p) (cond (canRead p) (cond (inRange p v) saved outOfRange) taken) readOnly
 
--- "Save is 01 stored, 02 action taken, 00 not saved."
+-- The save byte.
 unfoldable pub saveByte : Outcome → ℕ
 saveByte saved = saveDone
 saveByte taken = saveNone
 saveByte readOnly = saveFailed
 saveByte outOfRange = saveFailed
 
--- "The text of op 5 is empty on success, else "Read only" or "Range"."
+-- The text of op 5: empty, "Read only" or "Range".
 unfoldable pub reason : Outcome → List ℕ
 reason saved = []
 reason taken = []
@@ -60,14 +60,14 @@ cellsAfter taken cs place v = cs
 cellsAfter readOnly cs place v = cs
 cellsAfter outOfRange cs place v = cs
 
--- "cells unchanged; the caller is told which property"
+-- The caller is told the place of the property whose action it is to take.
 unfoldable pub actionOf : Outcome → ℕ → Option ℕ
 actionOf saved place = none
 actionOf taken place = some place
 actionOf readOnly place = none
 actionOf outOfRange place = none
 
--- The replies of the table's last column. B4, the op and the path stand in front, then the index where there is one.
+-- The table's last column: B4, the op and the path in front, the index behind them where there is one.
 abbrev pub echo : Request → List ℕ
 echo r = PDI ∷ r .op ∷ r .path
 
@@ -78,16 +78,19 @@ unfoldable pub nodeReply : Tree → ℕ → Request → List ℕ
 nodeReply t place r =
     echo r ++ length (childrenOf t place) ∷ length (propertiesOf t place) ∷ text (nodeIn t place .name)
 
+abbrev pub recordTexts : Property → List ℕ
+recordTexts p = text (p .label) ++ texts (p .options)
+
 unfoldable pub recordReply : Property → Request → List ℕ
 recordReply p r =
     echoIndexed r
-    ++ p .kind ∷ (word (p .min) ++ (word (p .max) ++ (half (p .attribute) ++ (half (p .format) ++ (text (p .label) ++ texts (p .options))))))
+    ++ p .kind ∷ (word (p .min) ++ (word (p .max) ++ (half (p .attribute) ++ (half (p .format) ++ recordTexts p))))
 
--- Document 003, 5.4: a status byte before the value, 01 for OK.
+-- 003, 5.4: a status byte stands before the word, 01 for OK.
 unfoldable pub readReply : Cell → Request → List ℕ
 readReply c r = echoIndexed r ++ statusOk ∷ word (c .word)
 
--- "The value in replies 4 and 5 is always the four bytes sent."
+-- The value in a reply to a write is the one sent, saved or not.
 unfoldable pub writeReply : Outcome → Request → List ℕ
 writeReply o r =
     echoIndexed r
@@ -135,7 +138,7 @@ onProperty t cs r place =
     (onRead cs (propertyIn t place) place r)
     (onWrite cs place r (outcome (propertyIn t place) (r .value))))
 
--- "no such node or property" is 11.
+-- A path with no node, or a node with no such property, is 11.
 unfoldable pub ifProperty : Tree → List Cell → Request → Option ℕ → Answer
 ifProperty t cs r none = refuse cs badParameter
 ifProperty t cs r (some place) = onProperty t cs r place

@@ -1,4 +1,4 @@
--- Document 01, "Bench tree and its cases": the tree and the words of its cells.
+-- 01, Bench tree and its cases: the tree, and its cells where each case starts.
 use Prim.Native.Nat.{ℕ}
 use mathlib.Core.Bool.{Bool, true, false}
 use mathlib.Core.List.{List, [], _∷_}
@@ -19,15 +19,15 @@ plainProperty node min max attribute format label unit =
       options = unit ∷ [];
     }
 
--- "Probe 1" and "Probe 2": 0, 0, 2001h, 8002h, unit "C"
+-- "Probe 1", "Probe 2": live, read only, signed, two decimals, unit "C".
 abbrev probe : ℕ → Property
 probe digit = plainProperty 1 0 0 0x2001 0x8002 (0x50 ∷ 0x72 ∷ 0x6F ∷ 0x62 ∷ 0x65 ∷ 0x20 ∷ digit ∷ []) (0x43 ∷ [])
 
--- "Average": 1..64, 0003h, 0000h, empty unit
+-- "Average": a setting from 1 to 64.
 abbrev average : Property
 average = plainProperty 2 1 64 0x0003 0x0000 (0x41 ∷ 0x76 ∷ 0x65 ∷ 0x72 ∷ 0x61 ∷ 0x67 ∷ 0x65 ∷ []) []
 
--- "Rate": type 2, max 1, 0003h, 1080h, "Slow", "Fast"
+-- "Rate": a setting with the options "Slow" and "Fast".
 abbrev rate : Property
 rate =
     record {
@@ -41,14 +41,14 @@ rate =
       options = (0x53 ∷ 0x6C ∷ 0x6F ∷ 0x77 ∷ []) ∷ (0x46 ∷ 0x61 ∷ 0x73 ∷ 0x74 ∷ []) ∷ [];
     }
 
--- "Restart": 0, 0, 0002h, 0000h, empty unit
+-- "Restart": an action.
 abbrev restart : Property
 restart = plainProperty 2 0 0 0x0002 0x0000 (0x52 ∷ 0x65 ∷ 0x73 ∷ 0x74 ∷ 0x61 ∷ 0x72 ∷ 0x74 ∷ []) []
 
 abbrev node : ℕ → List ℕ → Node
 node parent name = record { parent = parent; name = name }
 
--- Node 1 "Box"; 1.1 "Live"; 1.2 "Setup"
+-- "Box", and its children "Live" and "Setup".
 unfoldable pub benchTree : Tree
 benchTree =
     record {
@@ -63,6 +63,6 @@ benchTree =
 abbrev cell : ℕ → Bool → Cell
 cell word ready = record { word = word; ready = ready }
 
--- "Words: 2100 ready; 8500 not ready; 4; 0; 0."
+-- Probe 1 is ready at 21.00; probe 2 is not, with the word of an 85.00 in it; the settings hold 4 and 0.
 unfoldable pub benchCells : List Cell
 benchCells = cell 2100 true ∷ cell 8500 false ∷ cell 4 false ∷ cell 0 false ∷ cell 0 false ∷ []

@@ -16,7 +16,7 @@ module _ {A : Type 0} where
   every f [] = true
   every f (x ∷ xs) = f x && every f xs
 
--- Document 01, "Requests and replies": all numbers high byte first.
+-- 01, Requests and replies: a number of 16 and of 32 bits, the high byte first.
 unfoldable pub half : ℕ → List ℕ
 half n = n / 2 ^ 8 % 2 ^ 8 ∷ n % 2 ^ 8 ∷ []
 
@@ -31,7 +31,7 @@ numberAfter n (b ∷ bs) = numberAfter (n * 2 ^ 8 + b) bs
 abbrev pub number : List ℕ → ℕ
 number bs = numberAfter 0 bs
 
--- Texts end in a zero byte.
+-- 01, Requests and replies: a text with the zero byte that ends it, and several of them.
 unfoldable pub text : List ℕ → List ℕ
 text s = s ++ 0 ∷ []
 
@@ -48,7 +48,7 @@ sum (b ∷ bs) = b + sum bs
 abbrev pub bit : ℕ → ℕ → Bool
 bit k n = eqb (n / 2 ^ k % 2) 1
 
--- The order of words: signed ones have their sign bit turned over first.
+-- Words in order, signed or not: of signed ones the sign bit is turned over before they are compared.
 unfoldable pub ordered : Bool → ℕ → ℕ
 ordered true n = (n + 2 ^ 31) % 2 ^ 32
 ordered false n = n

@@ -1,4 +1,4 @@
--- Document 01, "Frames on the wire": frames and datagrams, as written and as read.
+-- 01, Frames on the wire: frames and datagrams, as written and as read. 003, sections 2 and 3, has the same frames.
 use Prim.Native.Nat.{ℕ, _+_, _-_, _%_, _^_, _≤_}
 use mathlib.Core.Bool.{Bool, true, false, cond, _&&_}
 use mathlib.Core.List.{List, [], _∷_, _++_}
@@ -8,12 +8,12 @@ use lib.Dec.{eqb, ltb, leb}
 use Rattle.protocol.specs.Numbers.{done, noPreamble, badPair, tooShort, tooLong, badChecksum, otherAddress, STX, ETX, DLE, maxData, maxContent}
 use Rattle.protocol.specs.Bytes.{sum, every}
 
--- "Every 10h among address, data and checksum is doubled."
+-- Doubling: each 10h is written twice.
 unfoldable pub double : List ℕ → List ℕ
 double [] = []
 double (b ∷ bs) = cond (eqb b DLE) (DLE ∷ DLE ∷ double bs) (b ∷ double bs)
 
--- "The checksum is (sum of address and data, before doubling) mod 256, taken from 255."
+-- The checksum of address and data, which are not doubled yet: 255 less their sum mod 256.
 unfoldable pub checksum : List ℕ → ℕ
 checksum bs = 255 - sum bs % 2 ^ 8
 
@@ -21,15 +21,15 @@ checksum bs = 255 - sum bs % 2 ^ 8
 unfoldable pub contentOf : ℕ → List ℕ → List ℕ
 contentOf address bs = address ∷ (bs ++ checksum (address ∷ bs) ∷ [])
 
--- "DLE STX, then address, data, checksum, then DLE ETX"
+-- A content between 10 02 and 10 03, doubled.
 unfoldable pub wrap : List ℕ → List ℕ
 wrap content = DLE ∷ STX ∷ (double content ++ DLE ∷ ETX ∷ [])
 
--- "the written frame of the data for that address"
+-- The written frame of data for an address.
 unfoldable pub frame : ℕ → List ℕ → List ℕ
 frame address bs = wrap (contentOf address bs)
 
--- "UDP: four zero bytes, then data."
+-- The datagram of data: four zero bytes in front.
 unfoldable pub datagram : List ℕ → List ℕ
 datagram bs = 0 ∷ 0 ∷ 0 ∷ 0 ∷ bs
 
@@ -44,12 +44,12 @@ received bs = record { number = done; payload = bs }
 abbrev pub refused : ℕ → Received
 refused n = record { number = n; payload = [] }
 
--- "Data is 1 to 256 bytes (house)."
+-- The house rule on data: 1 to 256 bytes.
 pub record Sized (bs : List ℕ) : Type 0 where
   pub least : 1 ≤ length bs
   pub most : length bs ≤ maxData
 
--- Rows 4 and 5 of "Numbers returned" for data.
+-- 01, Numbers returned, rows 4 and 5, of data.
 unfoldable pub ifSized : List ℕ → Received
 ifSized bs = cond (eqb (length bs) 0) (refused tooShort) (cond (ltb maxData (length bs)) (refused tooLong) (received bs))
 
@@ -63,7 +63,7 @@ dataIn content = take (length content - 2) (drop 1 content)
 abbrev pub checksumIn : List ℕ → ℕ
 checksumIn content = getD content (length content - 1) 0
 
--- "A closed frame is then judged for 4, 6, 7": rows 4, 6 and 7 of the content for an address.
+-- 01, The stream: the judgement of a closed frame for an address, rows 4, 6 and 7.
 unfoldable pub judge : ℕ → List ℕ → Received
 judge address content =
     cond (ltb (length content) 3)
@@ -81,8 +81,8 @@ abbrev pub atEnd : List ℕ → Option (List ℕ)
 atEnd [] = some []
 atEnd (b ∷ bs) = none
 
--- Row 3: "pairs 10 10 and lone bytes followed by one 10 03 at the very end", and the content that these are; none of any
--- other bytes. The first argument says whether a 10h waits for the other byte of its pair.
+-- 01, Numbers returned, row 3: the content of bytes that are pairs 10 10 and lone bytes, with one pair 10 03 as their very
+-- end; none of any other bytes. The first argument: a 10h waits for the other byte of its pair.
 unfoldable pub undouble : Bool → List ℕ → Option (List ℕ)
 undouble true [] = none
 undouble true (b ∷ bs) =
@@ -90,19 +90,19 @@ undouble true (b ∷ bs) =
 undouble false [] = none
 undouble false (b ∷ bs) = elim (eqb b DLE) [ true ↦ undouble true bs | false ↦ push b (undouble false bs) ]
 
--- Rows 4 to 7 of a whole string's content. (Rows 4 and 5 never hold together.)
+-- Rows 3 to 7 of a whole string, by its content. (Rows 4 and 5 never hold together.)
 unfoldable pub judgeWhole : ℕ → Option (List ℕ) → Received
 judgeWhole address none = refused badPair
 judgeWhole address (some content) = cond (ltb maxContent (length content)) (refused tooLong) (judge address content)
 
--- A whole serial string read for an address: rows 2 to 7, in order, and the data.
+-- A whole serial string read for an address: rows 2 to 7, in their order, and the data.
 unfoldable pub readFrame : ℕ → List ℕ → Received
 readFrame address s =
     cond (eqb (getD s 0 0) DLE && eqb (getD s 1 0) STX)
     (judgeWhole address (undouble false (drop 2 s)))
     (refused noPreamble)
 
--- A datagram read: rows 2, 4 and 5, and the data, which is the datagram from byte 4 on.
+-- A datagram read: rows 2, 4 and 5, and the data, which is the datagram itself from byte 4 on.
 abbrev pub fourZeros : List ℕ → Bool
 fourZeros s = leb 4 (length s) && every (λ b. eqb b 0) (take 4 s)
 

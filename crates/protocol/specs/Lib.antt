@@ -1,5 +1,6 @@
--- Documents 01 and 003 as definitions on plain values: lists of bytes, records, options.
--- Read them in this order. What is proved of them stands in proofs/.
+-- Documents 01 (the rules of the build) and 003 (PENKO's PDI) as definitions on plain values: lists of bytes, records,
+-- options. Read them in this order. Each comment names the section that the definition states. What is proved of them
+-- stands in proofs/.
 pub mod Numbers
 pub mod Bytes
 pub mod Frame

@@ -1,4 +1,5 @@
--- The cases of document 01 that are marked to be proved, one row each. (The read case as document 003, 5.4, decides: status 01.)
+-- 01, Bench tree and its cases: the cases that are marked to be proved, one row each. (The read case has status 01, as 003,
+-- 5.4, decides.)
 use Prim.Native.Nat.{ℕ}
 use mathlib.Core.Bool.{Bool, true, false}
 use mathlib.Core.List.{List, [], _∷_, _++_, map}

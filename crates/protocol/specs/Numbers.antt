@@ -1,7 +1,7 @@
 -- The numbers of documents 01 and 003, each named once.
 use Prim.Native.Nat.{ℕ, _^_}
 
--- Document 01, "Numbers returned".
+-- 01, Numbers returned.
 abbrev pub done : ℕ
 done = 0
 
@@ -57,7 +57,7 @@ notLive = 14
 abbrev pub noFrame : ℕ
 noFrame = 255
 
--- Document 003, section 2: the characters of a frame.
+-- 003, section 2: the characters of a frame.
 abbrev pub STX : ℕ
 STX = 0x02
 
@@ -67,7 +67,7 @@ ETX = 0x03
 abbrev pub DLE : ℕ
 DLE = 0x10
 
--- Document 003, section 4: the command of PDI, and the reply codes. 53h, busy, is never sent.
+-- 003, section 4: the command of PDI, and the reply codes. 53h, busy, is never sent.
 abbrev pub PDI : ℕ
 PDI = 0xB4
 
@@ -86,7 +86,7 @@ NAK = 0x58
 abbrev pub ILLEGAL : ℕ
 ILLEGAL = 0x59
 
--- Document 003, section 5: the operations of PDI.
+-- 003, section 5: the operations of PDI.
 abbrev pub opDetect : ℕ
 opDetect = 0
 
@@ -105,14 +105,14 @@ opWrite = 4
 abbrev pub opWriteExtended : ℕ
 opWriteExtended = 5
 
--- Document 003, 5.3: record types.
+-- 003, 5.3: record types.
 abbrev pub standard : ℕ
 standard = 1
 
 abbrev pub enumeration : ℕ
 enumeration = 2
 
--- Document 003, 5.3: attribute and format bits, by their place in the number.
+-- 003, 5.3: attribute and format bits, by their place in the number.
 abbrev pub bitRead : ℕ
 bitRead = 0
 
@@ -125,11 +125,11 @@ bitLive = 13
 abbrev pub bitSigned : ℕ
 bitSigned = 15
 
--- Document 003, 5.4: the status of a read that succeeded.
+-- 003, 5.4: the status of a read that succeeded.
 abbrev pub statusOk : ℕ
 statusOk = 0x01
 
--- Document 003, 5.5: the save byte.
+-- 003, 5.5: the save byte.
 abbrev pub saveFailed : ℕ
 saveFailed = 0x00
 
@@ -139,7 +139,7 @@ saveDone = 0x01
 abbrev pub saveNone : ℕ
 saveNone = 0x02
 
--- Document 01's limits, all of them house.
+-- The limits of document 01, all of them house rules.
 abbrev pub maxData : ℕ
 maxData = 256
 

@@ -1,4 +1,4 @@
--- Document 01, "Requests and replies": what a request is, how it is written, how data is read as one.
+-- 01, Requests and replies: what a request is, how it is written, and how data is read as one.
 use Prim.Native.Nat.{ℕ, suc, _-_}
 use mathlib.Core.Bool.{Bool, true, false, cond, _&&_}
 use mathlib.Core.List.{List, [], _∷_, _++_}
@@ -9,23 +9,23 @@ use Rattle.protocol.specs.Numbers.{done, unknownCommand, badParameter, P
 use Rattle.protocol.specs.Bytes.{every, word, number}
 use Rattle.protocol.specs.Frame.{Received, frame, datagram, readFrame, readDatagram}
 
--- "two requests are the same when op, path, index and value are". What an op does not ask for is empty or 0.
+-- A request is these four and nothing else. What its op does not ask for is empty or 0.
 pub record Request : Type 0 where
   pub op : ℕ
   pub path : List ℕ
   pub index : ℕ
   pub value : ℕ
 
--- "nonzero byte"
+-- A nonzero byte.
 abbrev pub nonzero : ℕ → Bool
 nonzero b = ltb 0 b && ltb b byteEnd
 
--- "The path is 1 to 16 nonzero bytes"
+-- A path: 1 to 16 nonzero bytes.
 unfoldable pub isPath : List ℕ → Bool
 isPath bs = leb 1 (length bs) && (leb (length bs) maxDepth && every nonzero bs)
 
--- What each op asks for, the middle column of the table: op 0 nothing, op 1 a path, ops 2 and 3 an index too, ops 4 and 5
--- a value too.
+-- The table's middle column: op 0 asks for nothing, op 1 for a path, ops 2 and 3 for an index too, ops 4 and 5 for a value
+-- too.
 abbrev pub asksPath : ℕ → Bool
 asksPath op = ltb opDetect op
 
@@ -35,7 +35,7 @@ asksIndex op = ltb opNode op
 abbrev pub asksValue : ℕ → Bool
 asksValue op = ltb opRead op
 
--- A part of a request: as its rule says where the op asks for it, and else empty or 0.
+-- Each part of a request keeps its rule where the op asks for it, and is empty or 0 where not.
 abbrev pub pathFits : ℕ → List ℕ → Bool
 pathFits op path = cond (asksPath op) (isPath path) (eqb (length path) 0)
 
@@ -48,7 +48,7 @@ valueFits op value = cond (asksValue op) (ltb value wordEnd) (eqb value 0)
 unfoldable pub fits : Request → Bool
 fits r = pathFits (r .op) (r .path) && (indexFits (r .op) (r .index) && valueFits (r .op) (r .value))
 
--- "Writing a request out refuses with 10 or 11 what the table does not allow."
+-- What writing a request out answers for its shape: 10 for an op that the table lacks, 11 for what does not fit its op.
 unfoldable pub allowance : Request → ℕ
 allowance r = cond (ltb opWriteExtended (r .op)) unknownCommand (cond (fits r) done badParameter)
 
@@ -62,11 +62,11 @@ indexPart r = cond (asksIndex (r .op)) (r .index ∷ []) []
 abbrev pub valuePart : Request → List ℕ
 valuePart r = cond (asksValue (r .op)) (0 ∷ word (r .value)) []
 
--- "A request's data is B4, the op and the bytes of the middle column."
+-- The data of a request: B4, the op, and the middle column.
 unfoldable pub dataOf : Request → List ℕ
 dataOf r = PDI ∷ r .op ∷ (r .path ++ (indexPart r ++ valuePart r))
 
--- "Its written form is, in serial, the written frame of that data for an address; by UDP, four zero bytes and that data."
+-- The written forms of a request: the frame of its data for an address, and the datagram of its data.
 unfoldable pub serialForm : ℕ → Request → List ℕ
 serialForm address r = frame address (dataOf r)
 
@@ -84,7 +84,7 @@ noRequest = record { op = 0; path = []; index = 0; value = 0 }
 abbrev pub declined : ℕ → Asked
 declined n = record { number = n; request = noRequest }
 
--- "With 0, and only then, the string is read as a request." A request whose shape is not in the table is 11.
+-- A request that fits is read with 0; any other shape is 11.
 unfoldable pub askedIf : Request → Asked
 askedIf r = cond (fits r) (record { number = done; request = r }) (declined badParameter)
 
@@ -104,7 +104,7 @@ readIndexed op value bs =
       value = value;
     })
 
--- "path, index, 00, value": the first zero ends path and index, and exactly four bytes follow it.
+-- Ops 4 and 5: the first zero ends path and index, and exactly four bytes follow it.
 unfoldable pub readValued : ℕ → List ℕ → Asked
 readValued op bs =
     cond (eqb (length (drop (suc (beforeZero bs)) bs)) 4)
@@ -118,7 +118,7 @@ readShape op bs =
     (readValued op bs)
     (cond (asksIndex op) (readIndexed op 0 bs) (askedIf (record { op = op; path = bs; index = 0; value = 0 })))
 
--- Data read as a request: rows 10 and 11. "B4 alone" is 11. (No call reads data of no bytes: that is 4.)
+-- Data read as a request: rows 10 and 11. B4 by itself is 11. (No call comes here with no bytes: that is 4.)
 unfoldable pub readRequest : List ℕ → Asked
 readRequest [] = declined badParameter
 readRequest (c ∷ []) = cond (eqb c PDI) (declined badParameter) (declined unknownCommand)
@@ -128,7 +128,7 @@ readRequest (c ∷ op ∷ bs) =
 unfoldable pub readPayload : Received → Asked
 readPayload r = cond (eqb (r .number) done) (readRequest (r .payload)) (declined (r .number))
 
--- "Reading a request looks only at the string and the box's address, and answers 0, 2 to 7, 10 or 11."
+-- A string read as a request for an address, and a datagram: first rows 2 to 7, then 10 and 11.
 unfoldable pub readSerial : ℕ → List ℕ → Asked
 readSerial address s = readPayload (readFrame address s)
 

@@ -1,4 +1,4 @@
--- Document 01, "The stream": what a reader of bytes hands up.
+-- 01, The stream: what a reader of bytes hands up.
 use Prim.Native.Nat.{ℕ, suc}
 use mathlib.Core.Bool.{Bool, true, false, cond}
 use mathlib.Core.List.{List, [], _∷_, _++_}
@@ -7,16 +7,17 @@ use lib.Dec.{eqb, ltb}
 use Rattle.protocol.specs.Numbers.{badPair, tooLong, STX, ETX, DLE, maxContent}
 use Rattle.protocol.specs.Frame.{Received, refused, judge}
 
--- Where a reader stands. The Bool: a 10h waits for the other byte of its pair. The list: the content since 10 02.
+-- Where a reader stands: outside a frame, or inside one with the content since its 10 02. The Bool: a 10h waits for the
+-- other byte of its pair.
 pub data Stream : Type 0 where
   outside : Bool → Stream
   inside : Bool → List ℕ → Stream
 
--- "A stream begins outside a frame with no 10h waiting."
+-- Where a stream begins.
 abbrev pub begin : Stream
 begin = outside false
 
--- What one byte brings about.
+-- What one byte brings about: nothing, a frame closed with its content, or one dropped, for a pair (3) or its length (5).
 pub data Event : Type 0 where
   nothing : Event
   closed : List ℕ → Event
@@ -30,16 +31,16 @@ pub record Step : Type 0 where
 abbrev pub on : Stream → Step
 on s = record { event = nothing; after = s }
 
--- "After a close or a drop the reader is outside."
+-- A close or a drop leaves the reader outside.
 abbrev pub ends : Event → Step
 ends e = record { event = e; after = begin }
 
--- One content byte more. "The 259th content byte drops it with 5."
+-- One content byte more: 258 are kept, and one beyond them drops the frame.
 unfoldable pub collect : List ℕ → ℕ → Step
 collect content b = cond (ltb (length content) maxContent) (on (inside false (content ++ b ∷ []))) (ends droppedLong)
 
--- "Outside a frame only the pair 10 02 counts: it opens one. Inside, a lone byte is content, 10 10 is content 10h, 10 03
--- closes, 10 02 starts afresh, any other pair drops the frame with 3."
+-- One byte. Outside, a 10h and what follows it are a pair, and 10 02 opens a frame. Inside, a lone byte is content; of the
+-- pairs 10 10 is a content byte 10h, 10 03 closes, 10 02 begins the frame anew, and every other one drops it.
 unfoldable pub step : Stream → ℕ → Step
 step (outside false) b = on (outside (eqb b DLE))
 step (outside true) b = on (cond (eqb b STX) (inside false []) (outside false))
@@ -59,7 +60,7 @@ pub record HandedUp : Type 0 where
   pub frame : Received
   pub end : ℕ
 
--- What an event hands up, for an address. The numbers handed up are those of closed and dropped frames.
+-- What an event hands up, for an address: one entry for a closed or dropped frame.
 unfoldable pub handUp : ℕ → ℕ → Event → List HandedUp
 handUp address end nothing = []
 handUp address end (closed content) = record { frame = judge address content; end = end } ∷ []
@@ -72,6 +73,6 @@ handedUpFrom address s read [] = []
 handedUpFrom address s read (b ∷ bs) =
     handUp address (suc read) (step s b .event) ++ handedUpFrom address (step s b .after) (suc read) bs
 
--- The stream rule, for an address and the bytes of a stream from its beginning.
+-- The stream rule: for an address and the bytes of a stream from its beginning.
 abbrev pub handedUp : ℕ → List ℕ → List HandedUp
 handedUp address bs = handedUpFrom address begin 0 bs

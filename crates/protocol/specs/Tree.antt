@@ -1,4 +1,4 @@
--- Document 01, "The tree": nodes, properties, the rules they keep, and the cells beside them.
+-- 01, The tree: nodes, properties, the rules they keep, and the cells beside them.
 use Prim.Native.Nat.{ℕ, zero, suc, _+_}
 use mathlib.Core.Bool.{Bool, true, false, cond, not, _&&_}
 use mathlib.Core.List.{List, [], _∷_, _++_}
@@ -15,8 +15,8 @@ pub record Node : Type 0 where
   pub parent : ℕ
   pub name : List ℕ
 
--- "A property has record type (1 or 2), min, max (32 bits), attribute and format (16 bits), label, and unit or options."
--- It names its node by the node's place. A unit is a list of one text.
+-- A property names its node by the node's place. `kind` is the record type; `options` holds the one unit text of type 1 or
+-- the options of type 2.
 pub record Property : Type 0 where
   pub node : ℕ
   pub kind : ℕ
@@ -31,7 +31,7 @@ pub record Tree : Type 0 where
   pub nodes : List Node
   pub properties : List Property
 
--- "Attribute 0001h read, 0002h write, 2000h live; other bits are carried unread."
+-- The three attribute bits that count.
 abbrev pub canRead : Property → Bool
 canRead p = bit bitRead (p .attribute)
 
@@ -41,41 +41,41 @@ canWrite p = bit bitWrite (p .attribute)
 abbrev pub isLive : Property → Bool
 isLive p = bit bitLive (p .attribute)
 
--- "signed exactly when format bit 15 is set"
+-- Format bit 15.
 abbrev pub isSigned : Property → Bool
 isSigned p = bit bitSigned (p .format)
 
--- "A property with write and without read is an action."
+-- An action: write and no read.
 abbrev pub isAction : Property → Bool
 isAction p = canWrite p && not (canRead p)
 
--- The places, counted from k, of the entries that pass a test: "in list order".
+-- The places, counted from k, of the entries that pass a test, in list order.
 module _ {A : Type 0} where
   unfoldable pub placesFrom : ℕ → (A → Bool) → List A → List ℕ
   placesFrom k f [] = []
   placesFrom k f (x ∷ xs) = cond (f x) (k ∷ placesFrom (suc k) f xs) (placesFrom (suc k) f xs)
 
--- The entry with a number, counted 1, 2, ..
+-- The entry with a number. The first has 1.
 unfoldable pub numbered : List ℕ → ℕ → Option ℕ
 numbered xs zero = none
 numbered xs (suc n) = getElem? xs n
 
--- "children are numbered 1, 2, .. in list order": the places of a node's children. The device is nobody's child.
+-- The places of a node's children, in list order. The device is nobody's child.
 unfoldable pub childrenOf : Tree → ℕ → List ℕ
 childrenOf t place = placesFrom 1 (λ n. eqb (n .parent) place) (drop 1 (t .nodes))
 
--- "every property names a node, and those of one node are numbered likewise"
+-- The places of a node's properties, in list order.
 unfoldable pub propertiesOf : Tree → ℕ → List ℕ
 propertiesOf t place = placesFrom 0 (λ p. eqb (p .node) place) (t .properties)
 
--- A child by its node number, a property by its property index. "an index never stands where a node number is wanted"
+-- A child by its node number, and a property by its property index: one type for each, so that neither stands for the other.
 abbrev pub childOf : Tree → ℕ → NodeNumber → Option ℕ
 childOf t place n = numbered (childrenOf t place) (n .0)
 
 abbrev pub propertyOf : Tree → ℕ → PropertyIndex → Option ℕ
 propertyOf t place i = numbered (propertiesOf t place) (i .0)
 
--- The node of a path: from a node at a place, child after child; from the top, "the first node is the device, path 1".
+-- The node of a path: from a node at a place, child after child; from the top, the device, whose path is 1.
 unfoldable pub descend : Tree → ℕ → List ℕ → Option ℕ
 descend t place [] = some place
 descend t place (n ∷ ns) = elim (childOf t place (record { 0 = n })) [ none ↦ none | some child ↦ descend t child ns ]
@@ -102,18 +102,18 @@ propertyIn t place =
       options = [];
     })
 
--- The rules. "characters, 20h to 7Eh"
+-- The rules. Characters are 20h to 7Eh.
 abbrev pub isCharacter : ℕ → Bool
 isCharacter b = leb firstCharacter b && leb b lastCharacter
 
 abbrev pub isText : List ℕ → Bool
 isText s = every isCharacter s
 
--- "Names and labels have at most 23 characters"
+-- A name or label: at most 23 characters.
 unfoldable pub isName : List ℕ → Bool
 isName s = leb (length s) maxName && isText s
 
--- "Every other node names a parent earlier in the list": the nodes from place k on.
+-- Each node from place k on names a parent that stands before it.
 unfoldable pub parentsFrom : ℕ → List Node → Bool
 parentsFrom k [] = true
 parentsFrom k (n ∷ ns) = ltb (n .parent) k && parentsFrom (suc k) ns
@@ -127,26 +127,26 @@ unfoldable pub depthsAfter : List ℕ → List Node → List ℕ
 depthsAfter known [] = known
 depthsAfter known (n ∷ ns) = depthsAfter (known ++ suc (getD known (n .parent) 0) ∷ []) ns
 
--- "Depth at most 16"
+-- The depth limit.
 unfoldable pub depthsSound : List Node → Bool
 depthsSound ns = every (λ d. leb d maxDepth) (depthsAfter [] ns)
 
--- "Live needs read and forbids write."
+-- A live property has read and not write.
 unfoldable pub liveSound : Property → Bool
 liveSound p = cond (isLive p) (canRead p && not (canWrite p)) true
 
--- "Type 1: one unit text; min not above max, signed exactly when format bit 15 is set."
+-- Type 1: one text, and min at most max in the order that format bit 15 gives.
 unfoldable pub standardSound : Property → Bool
 standardSound p = eqb (length (p .options)) 1 && atMost (isSigned p) (p .min) (p .max)
 
--- "Type 2: min 0, max 0 to 15, exactly max+1 options."
+-- Type 2: min 0, max at most 15, one option for each value.
 unfoldable pub enumerationSound : Property → Bool
 enumerationSound p = eqb (p .min) 0 && (leb (p .max) maxOption && eqb (length (p .options)) (suc (p .max)))
 
 unfoldable pub kindSound : Property → Bool
 kindSound p = cond (eqb (p .kind) standard) (standardSound p) (eqb (p .kind) enumeration && enumerationSound p)
 
--- "Unit and options use the same characters and take at most 160 bytes, zeros included."
+-- A unit or all options of a property: characters, and at most 160 bytes with their zeros.
 unfoldable pub optionsSound : List (List ℕ) → Bool
 optionsSound ss = every isText ss && leb (length (texts ss)) maxTexts
 
@@ -160,7 +160,7 @@ propertySound nodes p =
     ltb (p .node) nodes
     && (widthsSound p && (liveSound p && (kindSound p && (isName (p .label) && optionsSound (p .options)))))
 
--- "1 to 64 nodes, 0 to 128 properties", and every rule above.
+-- The two counts, and every rule above.
 unfoldable pub nodesSound : List Node → Bool
 nodesSound ns =
     leb (length ns) maxNodes && (parentsSound ns && (depthsSound ns && every (λ n. isName (n .name)) ns))
@@ -172,7 +172,7 @@ propertiesSound t =
 unfoldable pub sound : Tree → Bool
 sound t = nodesSound (t .nodes) && propertiesSound t
 
--- "one cell for each property: a 32-bit word and a ready mark (used for live only)"
+-- The cell of a property: its word, and its ready mark, which counts for a live property alone.
 pub record Cell : Type 0 where
   pub word : ℕ
   pub ready : Bool
@@ -183,11 +183,11 @@ cellIn cs place = getD cs place (record { word = 0; ready = false })
 unfoldable pub cellsSound : Tree → List Cell → Bool
 cellsSound t cs = eqb (length cs) (length (t .properties)) && every (λ c. ltb (c .word) wordEnd) cs
 
--- Whether a property has a number to read: it has read, and if it is live its cell is ready.
+-- Row 12: a property has a number to read where it has read and, if it is live, its cell is ready.
 unfoldable pub readable : Property → Cell → Bool
 readable p c = canRead p && cond (isLive p) (c .ready) true
 
--- "The converter posts to a live cell: marked ready, the word becomes the posted one; marked not ready, the word stays."
+-- A cell that the converter posted to: marked not ready it keeps its word.
 abbrev pub posted : Cell → ℕ → Bool → Cell
 posted c w true = record { word = w; ready = true }
 posted c w false = record { word = c .word; ready = false }
@@ -196,7 +196,7 @@ pub record Posting : Type 0 where
   pub number : ℕ
   pub cells : List Cell
 
--- Row 14: "posting to a cell that does not exist or is not live"
+-- A posting: row 14 for a place with no property or with one that is not live.
 unfoldable pub post : Tree → List Cell → ℕ → ℕ → Bool → Posting
 post t cs place w ready =
     cond (ltb place (length (t .properties)) && isLive (propertyIn t place))

@@ -1,0 +1,141 @@
+-- Single rules of document 01, said once more in other words, so that a definition that is wrong in one of them fails here.
+-- Assumes nothing.
+use Prim.Native.Nat.{ℕ, suc, _+_, _-_, _%_, _^_, _<_, _≤_}
+use native.Mathlib.Omega.{arith}
+use mathlib.Core.Path.{_≡_, refl, sym, ap, ap₂, _∙_}
+use mathlib.Core.Bool.{Bool, true, false, cond, _&&_, and-eq-true-iff}
+use mathlib.Core.List.{List, [], _∷_}
+use borrow.Author.Tests.{leb-true, leb-false, ltb-true, ltb-false, le-leb, lt-leb, lt-ltb, le-ltb, eq-eqb}
+use lib.ListN.{length, getD, set}
+use lib.Seq.{getD-set-same, getD-set-other}
+use lib.Dec.{eqb, leb, ltb}
+use lib.IntN.{ℤ, pos, negsuc}
+use lib.Signed.{leZ}
+use mir.Syntax.{w32}
+use mir.Val.{toZ}
+use Rattle.protocol.specs.Numbers.{done, disabled, notLive, DISABLED, standard, enumeration, wordEnd}
+use Rattle.protocol.specs.Bytes.{sum, ordered, atMost, every, text, texts}
+use Rattle.protocol.specs.Frame.{checksum}
+use Rattle.protocol.specs.Tree.{Property, Tree, Cell, isSigned, isLive, propertyIn, cellIn, posted, post, sound, nodesSound, propertiesSound, propertySound, parentsSound, parentsFrom, depthsSound, depthsAfter, liveSound, kindSound, standardSound, enumerationSound, isName, optionsSound, cellsSound}
+use Rattle.protocol.specs.Answer.{inRange, plain, refusalCode, answer}
+use Rattle.protocol.specs.Bench.{benchTree, benchCells}
+
+-- The checksum fills the sum of what it is taken of up to 255, mod 256.
+pub checksum-fills : (bs : List ℕ) → (sum bs + checksum bs) % 2 ^ 8 ≡ 255
+unfolding checksum
+checksum-fills bs = omega arith
+
+-- Words in order: unsigned as numbers, signed as the integers that a 32-bit machine reads in them.
+pub unsigned-order : (m n : ℕ) → atMost false m n ≡ leb m n
+unfolding atMost ordered
+unsigned-order m n = refl
+
+leb-same : (a b c d : ℕ) → (a ≤ b → c ≤ d) → (c ≤ d → a ≤ b) → leb a b ≡ leb c d
+leb-same a b c d f g = go (leb a b) refl (leb c d) refl
+  where
+    go : (t : Bool) → leb a b ≡ t → (u : Bool) → leb c d ≡ u → leb a b ≡ leb c d
+    go true e true h = e ∙ sym h
+    go true e false h = absurd (omega (arith, f (leb-true a b e), leb-false c d h))
+    go false e true h = absurd (omega (arith, g (leb-true c d h), leb-false a b e))
+    go false e false h = e ∙ sym h
+
+positive : (n : ℕ) → ltb n (2 ^ 31) ≡ true → toZ w32 n ≡ pos n
+positive n e = rw e
+
+negative : (n : ℕ) → ltb n (2 ^ 31) ≡ false → toZ w32 n ≡ negsuc (2 ^ 32 - suc n)
+negative n e = rw e
+
+pub signed-order : (m n : ℕ) → m < wordEnd → n < wordEnd → atMost true m n ≡ leZ (toZ w32 m) (toZ w32 n)
+unfolding atMost ordered
+signed-order m n h k = go (ltb m (2 ^ 31)) refl (ltb n (2 ^ 31)) refl
+  where
+    m′ : ℕ
+    m′ = (m + 2 ^ 31) % 2 ^ 32
+
+    n′ : ℕ
+    n′ = (n + 2 ^ 31) % 2 ^ 32
+
+    go : (t : Bool) → ltb m (2 ^ 31) ≡ t → (u : Bool) → ltb n (2 ^ 31) ≡ u → leb m′ n′ ≡ leZ (toZ w32 m) (toZ w32 n)
+    go true e true f =
+        let a : m < 2 ^ 31 = ltb-true m (2 ^ 31) e in
+        let b : n < 2 ^ 31 = ltb-true n (2 ^ 31) f in
+        rw (positive m e, positive n f) (leb-same m′ n′ m n (λ p. omega (arith, p)) (λ p. omega (arith, p)))
+    go true e false f =
+        let a : m < 2 ^ 31 = ltb-true m (2 ^ 31) e in
+        let b : 2 ^ 31 ≤ n = ltb-false n (2 ^ 31) f in
+        rw (positive m e, negative n f) (lt-leb m′ n′ (omega arith))
+    go false e true f =
+        let a : 2 ^ 31 ≤ m = ltb-false m (2 ^ 31) e in
+        let b : n < 2 ^ 31 = ltb-true n (2 ^ 31) f in
+        rw (negative m e, positive n f) (le-leb m′ n′ (omega arith))
+    go false e false f =
+        let a : 2 ^ 31 ≤ m = ltb-false m (2 ^ 31) e in
+        let b : 2 ^ 31 ≤ n = ltb-false n (2 ^ 31) f in
+        rw (negative m e, negative n f)
+        (leb-same m′ n′ (2 ^ 32 - suc n) (2 ^ 32 - suc m) (λ p. omega (arith, p)) (λ p. omega (arith, p)))
+
+-- The range rule: no range where min and max of type 1 are both 0, else both ends; type 2 is 0 to max and no more.
+pub no-range : (p : Property) (v : ℕ) → p .kind ≡ standard → p .min ≡ 0 → p .max ≡ 0 → inRange p v ≡ true
+unfolding inRange
+no-range p v k low high = rw (k, low, high)
+
+pub standard-range : (p : Property) (v : ℕ) → p .kind ≡ standard → (eqb (p .min) 0 && eqb (p .max) 0) ≡ false
+    → inRange p v ≡ (atMost (isSigned p) (p .min) v && atMost (isSigned p) v (p .max))
+unfolding inRange
+standard-range p v k e = rw (k, e)
+
+pub enumeration-range : (p : Property) (v : ℕ) → p .kind ≡ enumeration → inRange p v ≡ leb v (p .max)
+unfolding inRange
+enumeration-range p v k = rw k
+
+-- Posting: marked ready the word is the posted one, marked not ready every word stays, and no other cell is touched.
+abbrev takesPosts : Tree → ℕ → Bool
+takesPosts t place = ltb place (length (t .properties)) && isLive (propertyIn t place)
+
+post-by : (t : Tree) (cs : List Cell) (place w : ℕ) (ready k : Bool) → takesPosts t place ≡ k
+    → post t cs place w ready
+    ≡ cond k
+    (record { number = done; cells = set cs place (posted (cellIn cs place) w ready) })
+    (record { number = notLive; cells = cs })
+unfolding post
+post-by t cs place w ready k e = rw e
+
+pub post-refused : (t : Tree) (cs : List Cell) (place w : ℕ) (ready : Bool) → takesPosts t place ≡ false
+    → post t cs place w ready ≡ record { number = notLive; cells = cs }
+post-refused t cs place w ready e = post-by t cs place w ready false e
+
+pub post-ready : (t : Tree) (cs : List Cell) (place w : ℕ) → takesPosts t place ≡ true → place < length cs
+    → cellIn (post t cs place w true .cells) place ≡ record { word = w; ready = true }
+post-ready t cs place w e h =
+    ap (λ p. cellIn (p .cells) place) (post-by t cs place w true true e)
+    ∙ getD-set-same cs place (posted (cellIn cs place) w true) _ h
+
+pub post-unready : (t : Tree) (cs : List Cell) (place w : ℕ) → takesPosts t place ≡ true → place < length cs
+    → cellIn (post t cs place w false .cells) place ≡ record { word = cellIn cs place .word; ready = false }
+post-unready t cs place w e h =
+    ap (λ p. cellIn (p .cells) place) (post-by t cs place w false true e)
+    ∙ getD-set-same cs place (posted (cellIn cs place) w false) _ h
+
+pub post-others : (t : Tree) (cs : List Cell) (place w : ℕ) (ready : Bool) (k : ℕ) → (k ≡ place → ⊥)
+    → cellIn (post t cs place w ready .cells) k ≡ cellIn cs k
+post-others t cs place w ready k h = go (takesPosts t place) refl
+  where
+    go : (t′ : Bool) → takesPosts t place ≡ t′ → cellIn (post t cs place w ready .cells) k ≡ cellIn cs k
+    go true e =
+        ap (λ p. cellIn (p .cells) k) (post-by t cs place w ready true e)
+        ∙ getD-set-other cs place k (posted (cellIn cs place) w ready) _ h
+    go false e = ap (λ p. cellIn (p .cells) k) (post-by t cs place w ready false e)
+
+-- The bench tree keeps every rule, and its cells fit it.
+pub bench-sound : sound benchTree ≡ true
+unfolding sound nodesSound propertiesSound propertySound parentsSound parentsFrom depthsSound depthsAfter liveSound kindSound standardSound enumerationSound isName optionsSound every texts text atMost ordered benchTree
+bench-sound = refl
+
+pub bench-cells-sound : cellsSound benchTree benchCells ≡ true
+unfolding cellsSound every benchTree benchCells
+bench-cells-sound = refl
+
+-- With host functions off any data gets 57, and no cell changes.
+pub host-off : (t : Tree) (cs : List Cell) (bs : List ℕ) → answer t cs false bs ≡ plain cs disabled (DISABLED ∷ [])
+unfolding answer refusalCode
+host-off t cs bs = refl

@@ -1,0 +1,51 @@
+-- Tests: their conjunction, an answer that a test picks, and a test on every entry of a list.
+-- Assumes nothing.
+use Prim.Native.Nat.{ℕ, zero, suc}
+use mathlib.Core.Path.{_≡_, refl, sym, ap₂}
+use mathlib.Core.Bool.{Bool, true, false, cond, _&&_, and-eq-true-iff}
+use mathlib.Core.List.{List, [], _∷_, _++_}
+use lib.ListN.{getD}
+use Rattle.protocol.specs.Bytes.{every}
+
+-- Both tests pass.
+pub and-left : (a b : Bool) → (a && b) ≡ true → a ≡ true
+and-left a b h = and-eq-true-iff a b .0 h .0
+
+pub and-right : (a b : Bool) → (a && b) ≡ true → b ≡ true
+and-right a b h = and-eq-true-iff a b .0 h .1
+
+pub and-both : {a b : Bool} → a ≡ true → b ≡ true → (a && b) ≡ true
+and-both {a} {b} p q = and-eq-true-iff a b .1 (p, q)
+
+-- A fact of both answers of a test is one of the answer that it picks; each may use how the test came out.
+pub if-both : {A : Type 0} (P : A → Type 0) (t : Bool) {x y : A} → P x → P y → P (cond t x y)
+if-both P true p q = p
+if-both P false p q = q
+
+pub if-case : {A : Type 0} (P : A → Type 0) (t : Bool) {x y : A} → (t ≡ true → P x) → (t ≡ false → P y) → P (cond t x y)
+if-case P true p q = p refl
+if-case P false p q = q refl
+
+module _ {A : Type 0} (f : A → Bool) where
+  -- An entry of a list of which every entry passes, and so does the default.
+  pub every-at : (xs : List A) (d : A) → every f xs ≡ true → f d ≡ true → (k : ℕ) → f (getD xs k d) ≡ true
+  unfolding every
+  every-at [] d h e k = e
+  every-at (x ∷ xs) d h e zero = and-left (f x) (every f xs) h
+  every-at (x ∷ xs) d h e (suc k) = every-at xs d (and-right (f x) (every f xs) h) e k
+
+  pub every-append : (x y : List A) → every f x ≡ true → every f y ≡ true → every f (x ++ y) ≡ true
+  unfolding every
+  every-append [] y h k = k
+  every-append (b ∷ x) y h k =
+      and-both (and-left (f b) (every f x) h) (every-append x y (and-right (f b) (every f x) h) k)
+
+  pub every-one : (x : A) → f x ≡ true → every f (x ∷ []) ≡ true
+  unfolding every
+  every-one x h = and-both h refl
+
+  pub every-weaker : (g : A → Bool) → ((x : A) → f x ≡ true → g x ≡ true) → (xs : List A) → every f xs ≡ true → every g xs ≡ true
+  unfolding every
+  every-weaker g w [] h = refl
+  every-weaker g w (x ∷ xs) h =
+      and-both (w x (and-left (f x) (every f xs) h)) (every-weaker g w xs (and-right (f x) (every f xs) h))
