@@ -229,7 +229,7 @@ picked f [] k n place h = absurd (Option·none-ne-some place h)
 picked f (x ∷ xs) k n place h = go (f x) n (λ m. picked f xs (suc k) m place) h
   where
     go : (t : Bool) (n : ℕ) → ((m : ℕ) → getElem? (placesFrom (suc k) f xs) m ≡ some place → place < suc k + length xs)
-        → getElem? (cond t (k ∷ placesFrom (suc k) f xs) (placesFrom (suc k) f xs)) n ≡ some place → place < k + suc (length xs)
+        → getElem? (cond t (k ∷ []) [] ++ placesFrom (suc k) f xs) n ≡ some place → place < k + suc (length xs)
     go true zero ih h = omega (arith, Option·some-injective k place h)
     go true (suc n) ih h = omega (arith, ih n h)
     go false n ih h = omega (arith, ih n h)

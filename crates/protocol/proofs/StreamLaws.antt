@@ -10,7 +10,7 @@ use borrow.Author.Tests.{eqb-true, lt-ltb}
 use lib.ListN.{length, length-append}
 use lib.Dec.{eqb, ltb}
 use Rattle.protocol.specs.Numbers.{DLE, STX, ETX, maxContent}
-use Rattle.protocol.specs.Frame.{Received, double, wrap, frame, contentOf, judge, received, Sized}
+use Rattle.protocol.specs.Frame.{Received, doubled, double, wrap, frame, contentOf, judge, received, Sized}
 use Rattle.protocol.specs.Stream.{Stream, outside, inside, begin, Event, nothing, closed, droppedPair, droppedLong, Step, on, ends, collect, step, after, HandedUp, handUp, handedUpFrom, handedUp}
 use Rattle.protocol.proofs.FrameLaws.{double-nil, double-dle, double-lone, length-contentOf, judge-contentOf}
 
@@ -99,12 +99,8 @@ after-frame s a d = after-wrap s (contentOf a d)
 double-append : (c d : List ℕ) → double (c ++ d) ≡ double c ++ double d
 unfolding double
 double-append [] d = refl
-double-append (b ∷ c) d = go (eqb b DLE) (double-append c d)
-  where
-    go : (t : Bool) → double (c ++ d) ≡ double c ++ double d
-        → cond t (DLE ∷ DLE ∷ double (c ++ d)) (b ∷ double (c ++ d)) ≡ cond t (DLE ∷ DLE ∷ double c) (b ∷ double c) ++ double d
-    go true ih = ap (λ l. DLE ∷ DLE ∷ l) ih
-    go false ih = ap (λ l. b ∷ l) ih
+double-append (b ∷ c) d =
+    ap (λ l. doubled b ++ l) (double-append c d) ∙ sym (append-assoc (doubled b) (double c) (double d))
 
 -- One content byte more at the end.
 double-snoc-lone : (c : List ℕ) (b : ℕ) → eqb b DLE ≡ false → double (c ++ b ∷ []) ≡ double c ++ b ∷ []

@@ -9,9 +9,12 @@ use Rattle.protocol.specs.Numbers.{done, noPreamble, badPair, tooShort, 
 use Rattle.protocol.specs.Bytes.{sum, every}
 
 -- Doubling: each 10h is written twice.
+abbrev pub doubled : ℕ → List ℕ
+doubled b = cond (eqb b DLE) (DLE ∷ DLE ∷ []) (b ∷ [])
+
 unfoldable pub double : List ℕ → List ℕ
 double [] = []
-double (b ∷ bs) = cond (eqb b DLE) (DLE ∷ DLE ∷ double bs) (b ∷ double bs)
+double (b ∷ bs) = doubled b ++ double bs
 
 -- The checksum of address and data, which are not doubled yet: 255 less their sum mod 256.
 unfoldable pub checksum : List ℕ → ℕ

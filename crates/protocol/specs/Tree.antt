@@ -53,7 +53,7 @@ isAction p = canWrite p && not (canRead p)
 module _ {A : Type 0} where
   unfoldable pub placesFrom : ℕ → (A → Bool) → List A → List ℕ
   placesFrom k f [] = []
-  placesFrom k f (x ∷ xs) = cond (f x) (k ∷ placesFrom (suc k) f xs) (placesFrom (suc k) f xs)
+  placesFrom k f (x ∷ xs) = cond (f x) (k ∷ []) [] ++ placesFrom (suc k) f xs
 
 -- The entry with a number. The first has 1.
 unfoldable pub numbered : List ℕ → ℕ → Option ℕ
