@@ -15,7 +15,7 @@ use Rattle.protocol.specs.Numbers.{done, noPreamble, tooShort, tooLong, 
 use Rattle.protocol.specs.Bytes.{every}
 use Rattle.protocol.proofs.TestLaws.{and-left, and-right, every-at}
 use Rattle.protocol.proofs.ListLaws.{init-last}
-use Rattle.protocol.specs.Frame.{Received, double, undouble, push, atEnd, checksum, contentOf, addressIn, dataIn, checksumIn, received, refused, judge, judgeWhole, readFrame, frame, wrap, Sized, ifSized, datagram, readDatagram, fourZeros}
+use Rattle.protocol.specs.Frame.{Received, double, undouble, push, atEnd, checksum, contentOf, addressIn, dataIn, checksumIn, received, refused, judge, judgeWhole, readFrame, frame, wrap, Sized, sizeNumber, ifSized, datagram, readDatagram, fourZeros}
 
 pub double-nil : double [] ≡ []
 unfolding double
@@ -308,31 +308,40 @@ frame-injective a a′ d d′ h =
     )
 
 -- Rows 4 and 5 of data.
-pub ifSized-sized : (d : List ℕ) → Sized d → ifSized d ≡ received d
-unfolding ifSized
-ifSized-sized d h =
+pub size-done : (d : List ℕ) → Sized d → sizeNumber (length d) ≡ done
+unfolding sizeNumber
+size-done d h =
     rw (ne-eqb (length d) 0 (λ e. omega (arith, h .least, e)), le-ltb maxData (length d) (h .most))
 
-ifSized-by : (d : List ℕ) (t u : Bool) → eqb (length d) 0 ≡ t → ltb maxData (length d) ≡ u
-    → ifSized d ≡ cond t (refused tooShort) (cond u (refused tooLong) (received d))
+pub ifSized-sized : (d : List ℕ) (r : Received) → Sized d → ifSized d r ≡ r
 unfolding ifSized
-ifSized-by d t u e f = rw (e, f)
+ifSized-sized d r h = rw (size-done d h)
 
-pub ifSized-only : (d : List ℕ) → ifSized d .number ≡ done → (ifSized d ≡ received d) × Sized d
-ifSized-only d h = go (eqb (length d) 0) refl (ltb maxData (length d)) refl
+sizeNumber-by : (n : ℕ) (t u : Bool) → eqb n 0 ≡ t → ltb maxData n ≡ u → sizeNumber n ≡ cond t tooShort (cond u tooLong done)
+unfolding sizeNumber
+sizeNumber-by n t u e f = rw (e, f)
+
+pub size-only : (d : List ℕ) → sizeNumber (length d) ≡ done → Sized d
+size-only d h = go (eqb (length d) 0) refl (ltb maxData (length d)) refl
   where
-    go : (t : Bool) → eqb (length d) 0 ≡ t → (u : Bool) → ltb maxData (length d) ≡ u → (ifSized d ≡ received d) × Sized d
-    go true e u f = absurd (never-done refl (ifSized-by d true u e f) h)
-    go false e true f = absurd (never-done refl (ifSized-by d false true e f) h)
-    go false e false f = (
-      ifSized-by d false false e f,
-      record { least = omega (arith, eqb-false (length d) 0 e); most = ltb-false maxData (length d) f },
-    )
+    go : (t : Bool) → eqb (length d) 0 ≡ t → (u : Bool) → ltb maxData (length d) ≡ u → Sized d
+    go true e u f = absurd (omega (arith, sym (sizeNumber-by (length d) true u e f) ∙ h))
+    go false e true f = absurd (omega (arith, sym (sizeNumber-by (length d) false true e f) ∙ h))
+    go false e false f =
+        record { least = omega (arith, eqb-false (length d) 0 e); most = ltb-false maxData (length d) f }
+
+ifSized-only : (d : List ℕ) (r : Received) → ifSized d r .number ≡ done → (ifSized d r ≡ r) × Sized d
+unfolding ifSized
+ifSized-only d r h = go (eqb (sizeNumber (length d)) done) refl
+  where
+    go : (t : Bool) → eqb (sizeNumber (length d)) done ≡ t → (ifSized d r ≡ r) × Sized d
+    go true e = (rw e, size-only d (eqb-true (sizeNumber (length d)) done e))
+    go false e = let n : sizeNumber (length d) ≡ done = rw e at h in absurd (eqb-false (sizeNumber (length d)) done e n)
 
 -- Datagrams: the same of four zeros and the data.
 pub readDatagram-datagram : (d : List ℕ) → Sized d → readDatagram (datagram d) ≡ received d
 unfolding readDatagram datagram every
-readDatagram-datagram d h = rw (le-leb 4 (length (datagram d)) (omega arith)) (ifSized-sized d h)
+readDatagram-datagram d h = rw (le-leb 4 (length (datagram d)) (omega arith)) (ifSized-sized d (received d) h)
 
 zeros : (s : List ℕ) → fourZeros s ≡ true → s ≡ datagram (drop 4 s)
 unfolding datagram every
@@ -346,7 +355,7 @@ zeros (a ∷ b ∷ c ∷ d ∷ bs) h =
     λ k. eqb-true _ 0 (every-at (λ x. eqb x 0) (a ∷ b ∷ c ∷ d ∷ []) 0 all refl k) in
     cc (zero-at 0, zero-at 1, zero-at 2, zero-at 3)
 
-readDatagram-by : (s : List ℕ) (t : Bool) → fourZeros s ≡ t → readDatagram s ≡ cond t (ifSized (drop 4 s)) (refused noPreamble)
+readDatagram-by : (s : List ℕ) (t : Bool) → fourZeros s ≡ t → readDatagram s ≡ cond t (ifSized (drop 4 s) (received (drop 4 s))) (refused noPreamble)
 unfolding readDatagram
 readDatagram-by s t e = rw e
 
@@ -356,8 +365,9 @@ readDatagram-only s h = go (fourZeros s) refl
     go : (t : Bool) → fourZeros s ≡ t → Written datagram s (readDatagram s .payload)
     go false e = absurd (never-done refl (readDatagram-by s false e) h)
     go true e =
-        let p : (ifSized (drop 4 s) ≡ received (drop 4 s)) × Sized (drop 4 s) =
-        ifSized-only (drop 4 s) (sym (ap (λ r. r .number) (readDatagram-by s true e)) ∙ h) in
+        let d : List ℕ = drop 4 s in
+        let p : (ifSized d (received d) ≡ received d) × Sized d =
+        ifSized-only d (received d) (sym (ap (λ r. r .number) (readDatagram-by s true e)) ∙ h) in
         rw (readDatagram-by s true e ∙ p .0) (record { written = zeros s e; size = p .1 })
 
 pub datagram-injective : (d d′ : List ℕ) → datagram d ≡ datagram d′ → d ≡ d′

@@ -1,6 +1,7 @@
 -- What is proved of the definitions of specs/.
 pub mod TestLaws
 pub mod ListLaws
+pub mod BufferLaws
 pub mod FrameLaws
 pub mod StreamLaws
 pub mod RequestLaws

@@ -5,7 +5,7 @@ use mathlib.Core.List.{List, [], _∷_, _++_}
 use mathlib.Core.Option.{Option, none, some}
 use lib.ListN.{length, getD, take, drop}
 use lib.Dec.{eqb, ltb, leb}
-use Rattle.protocol.specs.Numbers.{done, noPreamble, badPair, tooShort, tooLong, badChecksum, otherAddress, STX, ETX, DLE, maxData, maxContent}
+use Rattle.protocol.specs.Numbers.{done, noPreamble, badPair, tooShort, tooLong, badChecksum, otherAddress, noRoom, STX, ETX, DLE, maxData, maxContent}
 use Rattle.protocol.specs.Bytes.{sum, every}
 
 -- Doubling: each 10h is written twice.
@@ -52,9 +52,27 @@ pub record Sized (bs : List ℕ) : Type 0 where
   pub least : 1 ≤ length bs
   pub most : length bs ≤ maxData
 
--- 01, Numbers returned, rows 4 and 5, of data.
-unfoldable pub ifSized : List ℕ → Received
-ifSized bs = cond (eqb (length bs) 0) (refused tooShort) (cond (ltb maxData (length bs)) (refused tooLong) (received bs))
+-- 01, Numbers returned, rows 4 and 5: by how many bytes data has.
+unfoldable pub sizeNumber : ℕ → ℕ
+sizeNumber n = cond (eqb n 0) tooShort (cond (ltb maxData n) tooLong done)
+
+-- What is done with a number of 0 alone.
+abbrev pub ifDone : ℕ → Received → Received
+ifDone n r = cond (eqb n done) r (refused n)
+
+unfoldable pub ifSized : List ℕ → Received → Received
+ifSized bs r = ifDone (sizeNumber (length bs)) r
+
+-- Data written as a frame for an address, and as a datagram.
+abbrev pub writeFrame : ℕ → List ℕ → Received
+writeFrame address bs = ifSized bs (received (frame address bs))
+
+abbrev pub writeDatagram : List ℕ → Received
+writeDatagram bs = ifSized bs (received (datagram bs))
+
+-- Row 8: a call with less room than its kind of output needs is refused before anything else is looked at.
+unfoldable pub ifRoom : ℕ → ℕ → Received → Received
+ifRoom least room r = cond (ltb room least) (refused noRoom) r
 
 -- The three parts of a content.
 abbrev pub addressIn : List ℕ → ℕ
@@ -110,4 +128,4 @@ abbrev pub fourZeros : List ℕ → Bool
 fourZeros s = leb 4 (length s) && every (λ b. eqb b 0) (take 4 s)
 
 unfoldable pub readDatagram : List ℕ → Received
-readDatagram s = cond (fourZeros s) (ifSized (drop 4 s)) (refused noPreamble)
+readDatagram s = cond (fourZeros s) (ifSized (drop 4 s) (received (drop 4 s))) (refused noPreamble)

@@ -4,6 +4,7 @@
 pub mod Numbers
 pub mod Bytes
 pub mod Frame
+pub mod Buffer
 pub mod Stream
 pub mod Request
 pub mod Tree

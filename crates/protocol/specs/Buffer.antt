@@ -1,0 +1,26 @@
+-- Lent buffers: what a call that writes leaves in one.
+use Prim.Native.Nat.{ℕ, _+_}
+use mathlib.Core.Path.{_≡_}
+use mathlib.Core.List.{List, _++_}
+use lib.ListN.{length, take, drop}
+use Rattle.protocol.specs.Frame.{Received}
+
+-- The bytes ys at a place of a buffer, the rest of it as it was.
+unfoldable pub putAt : ℕ → List ℕ → List ℕ → List ℕ
+putAt at ys xs = take at xs ++ (ys ++ drop (at + length ys) xs)
+
+-- 01, Numbers returned: what is written stands at the front, and the output beyond it stays as lent.
+unfoldable pub over : List ℕ → List ℕ → List ℕ
+over ys xs = ys ++ drop (length ys) xs
+
+-- What a helper that writes at a place returns and leaves: the place after its bytes, and the buffer with them.
+pub record Put (at : ℕ) (ys old : List ℕ) (r : ℕ) (new : List ℕ) : Type 0 where
+  pub next : r ≡ at + length ys
+  pub bytes : new ≡ putAt at ys old
+
+-- What a call that writes into a lent output returns and leaves: a number, the length of what it wrote, and every byte of
+-- the output. A refusal has nothing to write, so that the output is as lent.
+pub record Emits (what : Received) (old : List ℕ) (n size : ℕ) (new : List ℕ) : Type 0 where
+  pub number : n ≡ what .number
+  pub len : size ≡ length (what .payload)
+  pub bytes : new ≡ over (what .payload) old
