@@ -2,15 +2,16 @@
 -- Assumes nothing.
 use Prim.Native.Nat.{ℕ, zero, suc, _+_, _-_, _<_, _≤_}
 use native.Mathlib.Omega.{arith}
-use native.Mathlib.Nat.{zero-add, add-assoc}
+use native.Mathlib.Nat.{zero-add, add-zero, add-assoc}
 use native.Mathlib.Numerals.{add-one}
-use mathlib.Core.Path.{_≡_, refl, sym, ap, ap₂, _∙_}
+use mathlib.Core.Path.{_≡_, refl, sym, ap, ap₂, subst, _∙_}
 use mathlib.Core.List.{List, [], _∷_, _++_, append-assoc}
-use lib.ListN.{length, take, drop, set, length-append, length-take, length-drop}
+use borrow.Author.Tests.{lt-ltb, le-ltb, eq-eqb, ne-eqb}
+use lib.ListN.{length, take, drop, set, take-append-drop, length-append, length-take, length-drop}
 use lib.Seq.{set-split, length-take-le, take-at, drop-at, drop-drop, drop-append-add}
 use Rattle.protocol.specs.Buffer.{putAt, over, Put, Emits}
-use Rattle.protocol.specs.Numbers.{done}
-use Rattle.protocol.specs.Frame.{received}
+use Rattle.protocol.specs.Numbers.{done, noRoom}
+use Rattle.protocol.specs.Frame.{Received, received, refused, sizeNumber, ifSized, ifRoom}
 
 -- One byte stored is one byte put.
 pub set-put : (xs : List ℕ) (at b : ℕ) → at < length xs → set xs at b ≡ putAt at (b ∷ []) xs
@@ -57,6 +58,15 @@ pub over-nil : (xs : List ℕ) → over [] xs ≡ xs
 unfolding over
 over-nil xs = refl
 
+-- Nothing put.
+pub put-nil : (at : ℕ) (xs : List ℕ) → Put at [] xs at xs
+unfolding putAt
+put-nil at xs =
+    record {
+      next = omega arith;
+      bytes = sym (ap (λ n. take at xs ++ drop n xs) (add-zero at) ∙ take-append-drop at xs)
+    }
+
 -- A helper's bytes behind those of another.
 pub puts : {at r r′ : ℕ} {ys zs old mid new : List ℕ} → at ≤ length old → Put at ys old r mid → Put r zs mid r′ new
     → Put at (ys ++ zs) old r′ new
@@ -66,7 +76,37 @@ puts {at} {r} {r′} {ys} {zs} {old} {mid} {new} h p q =
       bytes = q .bytes ∙ ap₂ (λ n b. putAt n zs b) (p .next) (p .bytes) ∙ put-put old at ys zs h;
     }
 
+-- The room that is left behind what was put.
+pub put-room : {at r : ℕ} {ys old new : List ℕ} → Put at ys old r new → (k : ℕ) → at + length ys + k ≤ length old → r + k ≤ length new
+put-room {at} {r} {ys} {old} p k h =
+    omega (arith, p .next, ap length (p .bytes) ∙ length-put old at ys (omega arith))
+
 -- What was put from the front on is what a call emits.
 pub put-emits : {r : ℕ} {ys old new : List ℕ} → Put 0 ys old r new → Emits (received ys) old done r new
 put-emits {ys = ys} {old = old} p =
     record { number = refl; len = omega (arith, p .next); bytes = p .bytes ∙ over-put ys old }
+
+-- A refusal, which leaves the output as lent; 8; the other numbers where there is room; 4 and 5; and data of a good size.
+pub emits-refused : (n : ℕ) (old : List ℕ) → Emits (refused n) old n 0 old
+emits-refused n old = record { number = refl; len = refl; bytes = sym (over-nil old) }
+
+pub emits-no-room : (least room : ℕ) (w : Received) (old : List ℕ) → room < least → Emits (ifRoom least room w) old noRoom 0 old
+unfolding ifRoom
+emits-no-room least room w old h = rw (lt-ltb room least h) (emits-refused noRoom old)
+
+pub emits-in-room : {least room : ℕ} {w : Received} {old new : List ℕ} {n size : ℕ} → least ≤ room → Emits w old n size new
+  → Emits (ifRoom least room w) old n size new
+unfolding ifRoom
+emits-in-room {least} {room} h e = rw (le-ltb room least h) e
+
+pub emits-unsized : (bs : List ℕ) (w : Received) (old : List ℕ) {n : ℕ} → n ≡ sizeNumber (length bs) → (n ≡ done → ⊥)
+  → Emits (ifSized bs w) old n 0 old
+unfolding ifSized
+emits-unsized bs w old {n} e h =
+    rw (ne-eqb (sizeNumber (length bs)) done (λ d. h (e ∙ d)))
+    (subst (λ m. Emits (refused m) old n 0 old) e (emits-refused n old))
+
+pub emits-sized : (bs : List ℕ) {w : Received} {old new : List ℕ} {n size : ℕ} → sizeNumber (length bs) ≡ done → Emits w old n size new
+  → Emits (ifSized bs w) old n size new
+unfolding ifSized
+emits-sized bs h e = rw (eq-eqb (sizeNumber (length bs)) done h) e

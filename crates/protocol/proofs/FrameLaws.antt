@@ -1,10 +1,10 @@
 -- Frames and datagrams: reading what was written gives it back, and only what was written is read.
 -- Assumes nothing.
-use Prim.Native.Nat.{ℕ, suc, _+_, _-_, _<_, _≤_}
+use Prim.Native.Nat.{ℕ, suc, _+_, _-_, _*_, _<_, _≤_}
 use native.Mathlib.Omega.{arith}
 use mathlib.Core.Path.{_≡_, refl, sym, ap, ap₂, _∙_}
 use mathlib.Core.Bool.{Bool, true, false, cond, _&&_, false≢true}
-use mathlib.Core.List.{List, [], _∷_, _++_}
+use mathlib.Core.List.{List, [], _∷_, _++_, append-assoc, append-nil}
 use mathlib.Core.Option.{Option, none, some, Option·none-ne-some, Option·some-injective}
 use borrow.Author.Tests.{eqb-true, eqb-false, ltb-true, ltb-false, eq-eqb, ne-eqb, le-ltb, le-leb}
 use native.Mathlib.Nat.{not-suc-le-zero, le-of-suc-le-suc, le-refl}
@@ -15,7 +15,7 @@ use Rattle.protocol.specs.Numbers.{done, noPreamble, tooShort, tooLong, 
 use Rattle.protocol.specs.Bytes.{every}
 use Rattle.protocol.proofs.TestLaws.{and-left, and-right, every-at}
 use Rattle.protocol.proofs.ListLaws.{init-last}
-use Rattle.protocol.specs.Frame.{Received, double, undouble, push, atEnd, checksum, contentOf, addressIn, dataIn, checksumIn, received, refused, judge, judgeWhole, readFrame, frame, wrap, Sized, sizeNumber, ifSized, datagram, readDatagram, fourZeros}
+use Rattle.protocol.specs.Frame.{Received, doubled, double, undouble, push, atEnd, checksum, contentOf, addressIn, dataIn, checksumIn, received, refused, judge, judgeWhole, readFrame, frame, wrap, Sized, sizeNumber, ifSized, datagram, readDatagram, fourZeros}
 
 pub double-nil : double [] ≡ []
 unfolding double
@@ -29,6 +29,30 @@ double-dle b bs e = rw e
 pub double-lone : (b : ℕ) (bs : List ℕ) → eqb b DLE ≡ false → double (b ∷ bs) ≡ b ∷ double bs
 unfolding double
 double-lone b bs e = rw e
+
+-- Bytes joined, and one byte more at the end.
+pub double-append : (c d : List ℕ) → double (c ++ d) ≡ double c ++ double d
+unfolding double
+double-append [] d = refl
+double-append (b ∷ c) d =
+    ap (λ l. doubled b ++ l) (double-append c d) ∙ sym (append-assoc (doubled b) (double c) (double d))
+
+pub double-snoc : (c : List ℕ) (b : ℕ) → double (c ++ b ∷ []) ≡ double c ++ doubled b
+unfolding double
+double-snoc c b = double-append c (b ∷ []) ∙ ap (λ l. double c ++ l) (append-nil (doubled b))
+
+-- Doubled bytes take at most twice the room.
+pub length-doubled : (b : ℕ) → length (doubled b) ≤ 2
+length-doubled b = go (eqb b DLE)
+  where
+    go : (t : Bool) → length (cond t (DLE ∷ DLE ∷ []) (b ∷ [])) ≤ 2
+    go true = omega arith
+    go false = omega arith
+
+pub length-double : (c : List ℕ) → length (double c) ≤ 2 * length c
+unfolding double
+length-double [] = omega arith
+length-double (b ∷ c) = omega (arith, length-doubled b, length-double c, length-append (doubled b) (double c))
 
 -- One byte read: alone, the first of a pair, and the second of one.
 undouble-lone : (b : ℕ) (bs : List ℕ) → eqb b DLE ≡ false → undouble false (b ∷ bs) ≡ push b (undouble false bs)

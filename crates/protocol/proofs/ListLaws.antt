@@ -11,7 +11,7 @@ use lib.ListN.{length, getD, take, drop, List·getD-append, List·getD-eq-defaul
 use lib.Seq.{take-suc, take-length, getD-append-add, getD-drop, getD-take}
 use lib.Dec.{ltb}
 use Rattle.protocol.specs.Numbers.{byteEnd, wordEnd}
-use Rattle.protocol.specs.Bytes.{Bytes, every, word, half, number, numberAfter}
+use Rattle.protocol.specs.Bytes.{Bytes, every, word, half, number, numberAfter, sum}
 
 -- A list that is not empty is all but its last entry, and that entry.
 pub init-last : (bs : List ℕ) → 1 ≤ length bs → bs ≡ take (length bs - 1) bs ++ getD bs (length bs - 1) 0 ∷ []
@@ -70,3 +70,9 @@ bytes-left x y all i = go (decLt i (length x))
 pub bytes-cons : (b : ℕ) (bs : List ℕ) → b < byteEnd → Bytes bs → Bytes (b ∷ bs)
 bytes-cons b bs h all zero = h
 bytes-cons b bs h all (suc i) = all i
+
+-- The sum with one byte more, mod 256.
+pub sum-snoc : (bs : List ℕ) (b : ℕ) → sum (bs ++ b ∷ []) ≡ sum bs + b
+unfolding sum
+sum-snoc [] b = omega arith
+sum-snoc (x ∷ bs) b = omega (arith, sum-snoc bs b)

@@ -10,9 +10,9 @@ use borrow.Author.Tests.{eqb-true, lt-ltb}
 use lib.ListN.{length, length-append}
 use lib.Dec.{eqb, ltb}
 use Rattle.protocol.specs.Numbers.{DLE, STX, ETX, maxContent}
-use Rattle.protocol.specs.Frame.{Received, doubled, double, wrap, frame, contentOf, judge, received, Sized}
+use Rattle.protocol.specs.Frame.{Received, double, wrap, frame, contentOf, judge, received, Sized}
 use Rattle.protocol.specs.Stream.{Stream, outside, inside, begin, Event, nothing, closed, droppedPair, droppedLong, Step, on, ends, collect, step, after, HandedUp, handUp, handedUpFrom, handedUp}
-use Rattle.protocol.proofs.FrameLaws.{double-nil, double-dle, double-lone, length-contentOf, judge-contentOf}
+use Rattle.protocol.proofs.FrameLaws.{double-nil, double-dle, double-lone, double-snoc, length-contentOf, judge-contentOf}
 
 -- Bytes joined: the state, and what is handed up.
 pub after-append : (s : Stream) (x y : List ℕ) → after s (x ++ y) ≡ after (after s x) y
@@ -96,20 +96,12 @@ pub after-frame : (s : Stream) (a : ℕ) (d : List ℕ) → after s (frame a d) 
 unfolding frame
 after-frame s a d = after-wrap s (contentOf a d)
 
-double-append : (c d : List ℕ) → double (c ++ d) ≡ double c ++ double d
-unfolding double
-double-append [] d = refl
-double-append (b ∷ c) d =
-    ap (λ l. doubled b ++ l) (double-append c d) ∙ sym (append-assoc (doubled b) (double c) (double d))
-
 -- One content byte more at the end.
 double-snoc-lone : (c : List ℕ) (b : ℕ) → eqb b DLE ≡ false → double (c ++ b ∷ []) ≡ double c ++ b ∷ []
-double-snoc-lone c b e =
-    double-append c (b ∷ []) ∙ ap (λ l. double c ++ l) (double-lone b [] e ∙ ap (λ l. b ∷ l) double-nil)
+double-snoc-lone c b e = double-snoc c b ∙ ap (λ t. double c ++ cond t (DLE ∷ DLE ∷ []) (b ∷ [])) e
 
 double-snoc-dle : (c : List ℕ) → double (c ++ DLE ∷ []) ≡ double c ++ DLE ∷ DLE ∷ []
-double-snoc-dle c =
-    double-append c (DLE ∷ []) ∙ ap (λ l. double c ++ l) (double-dle DLE [] refl ∙ ap (λ l. DLE ∷ DLE ∷ l) double-nil)
+double-snoc-dle c = double-snoc c DLE
 
 -- Inside a frame that has room, doubled content is collected and nothing is handed up.
 pub record Collected (a : ℕ) (c d : List ℕ) (n : ℕ) : Type 0 where

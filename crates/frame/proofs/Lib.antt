@@ -1,0 +1,3 @@
+-- Laws that the proofs of this crate's functions apply to the places of their code.
+pub mod BodyLaws
+pub mod WriteLaws

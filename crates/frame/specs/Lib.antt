@@ -1,0 +1,2 @@
+-- What the helpers of this crate leave behind. What the calls promise is stated over the definitions of `protocol`.
+pub mod Body
