@@ -2,6 +2,7 @@
 mod buffer;
 mod checksum;
 mod size;
+pub mod read;
 pub mod write;
 
 // What a call that writes into a lent output returns: a number of document 01, and the length of what it wrote.

@@ -55,23 +55,23 @@ length-double [] = omega arith
 length-double (b ∷ c) = omega (arith, length-doubled b, length-double c, length-append (doubled b) (double c))
 
 -- One byte read: alone, the first of a pair, and the second of one.
-undouble-lone : (b : ℕ) (bs : List ℕ) → eqb b DLE ≡ false → undouble false (b ∷ bs) ≡ push b (undouble false bs)
+pub undouble-lone : (b : ℕ) (bs : List ℕ) → eqb b DLE ≡ false → undouble false (b ∷ bs) ≡ push b (undouble false bs)
 unfolding undouble
 undouble-lone b bs e = rw (e, undouble)
 
-undouble-dle : (b : ℕ) (bs : List ℕ) → eqb b DLE ≡ true → undouble false (b ∷ bs) ≡ undouble true bs
+pub undouble-dle : (b : ℕ) (bs : List ℕ) → eqb b DLE ≡ true → undouble false (b ∷ bs) ≡ undouble true bs
 unfolding undouble
 undouble-dle b bs e = rw (e, undouble)
 
-undouble-pair : (b : ℕ) (bs : List ℕ) → eqb b DLE ≡ true → undouble true (b ∷ bs) ≡ push DLE (undouble false bs)
+pub undouble-pair : (b : ℕ) (bs : List ℕ) → eqb b DLE ≡ true → undouble true (b ∷ bs) ≡ push DLE (undouble false bs)
 unfolding undouble
 undouble-pair b bs e = rw (e, undouble)
 
-undouble-end : (b : ℕ) (bs : List ℕ) → eqb b DLE ≡ false → eqb b ETX ≡ true → undouble true (b ∷ bs) ≡ atEnd bs
+pub undouble-end : (b : ℕ) (bs : List ℕ) → eqb b DLE ≡ false → eqb b ETX ≡ true → undouble true (b ∷ bs) ≡ atEnd bs
 unfolding undouble
 undouble-end b bs e h = rw (e, h, undouble)
 
-undouble-bad : (b : ℕ) (bs : List ℕ) → eqb b DLE ≡ false → eqb b ETX ≡ false → undouble true (b ∷ bs) ≡ none
+pub undouble-bad : (b : ℕ) (bs : List ℕ) → eqb b DLE ≡ false → eqb b ETX ≡ false → undouble true (b ∷ bs) ≡ none
 unfolding undouble
 undouble-bad b bs e h = rw (e, h, undouble)
 
