@@ -26,20 +26,20 @@ module _ (bs old : List ℕ) (from first : ℕ) (room : from + 2 * length bs ≤
   begins h = record { within = omega arith; body = record { put = put-nil from old; summed = omega arith } }
 
   pub more : {out out′ : List ℕ} {at at′ total total′ i : ℕ} → Writing bs old from first out at total i → i < length bs
-    → Put at (doubled (getD bs i 0)) out at′ out′ → total′ ≡ (total + getD bs i 0) % 2 ^ 8
-    → Writing bs old from first out′ at′ total′ (i + 1)
+      → Put at (doubled (getD bs i 0)) out at′ out′ → total′ ≡ (total + getD bs i 0) % 2 ^ 8
+      → Writing bs old from first out′ at′ total′ (i + 1)
   more {out′ = out′} {at′ = at′} {i = i} w h p s =
       let next : take (i + 1) bs ≡ take i bs ++ getD bs i 0 ∷ [] = ap (λ n. take n bs) (add-one i) ∙ take-suc bs i 0 h in
       record {
         within = omega arith;
         body =
-          record {
-            put =
-              subst (λ l. Put from l old at′ out′)
-              (sym (ap double next ∙ double-snoc (take i bs) (getD bs i 0)))
-              (puts (omega arith) (w .body .put) p);
-            summed = omega (arith, s, w .body .summed, ap sum next ∙ sum-snoc (take i bs) (getD bs i 0))
-          }
+            record {
+              put =
+                  subst (λ l. Put from l old at′ out′)
+                  (sym (ap double next ∙ double-snoc (take i bs) (getD bs i 0)))
+                  (puts (omega arith) (w .body .put) p);
+              summed = omega (arith, s, w .body .summed, ap sum next ∙ sum-snoc (take i bs) (getD bs i 0));
+            };
       }
 
   pub same : {out : List ℕ} {at total i : ℕ} → Writing bs old from first out at total i → length out ≡ length old
@@ -49,10 +49,10 @@ module _ (bs old : List ℕ) (from first : ℕ) (room : from + 2 * length bs ≤
       (omega (arith, room, length-double (take i bs), length-take i bs))
 
   pub room-left : {out : List ℕ} {at total i : ℕ} → Writing bs old from first out at total i → i < length bs
-    → at + 2 ≤ length out
+      → at + 2 ≤ length out
   room-left {i = i} w h =
       omega (arith, room, same w, w .body .put .next, length-double (take i bs), length-take i bs)
 
   pub ends : {out : List ℕ} {at total i : ℕ} → Writing bs old from first out at total i → length bs ≤ i
-    → PutBody from first bs old at total out
+      → PutBody from first bs old at total out
   ends {out} {at} {total} {i} w h = subst (λ l. PutBody from first l old at total out) (take-all i bs h) (w .body)

@@ -2,3 +2,4 @@
 pub mod BodyLaws
 pub mod WriteLaws
 pub mod ReadLaws
+pub mod CheckLaws

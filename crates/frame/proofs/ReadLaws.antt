@@ -67,19 +67,19 @@ module _ (s : List ℕ) (i : ℕ) where
   doubled-at h e f = sym (pair-at h e ∙ rw (eq-eqb (getD s (i + 1) 0) DLE f))
 
   pub other-at : i + 1 < length s → getD s i 0 ≡ DLE → (getD s (i + 1) 0 ≡ DLE → ⊥) → (getD s (i + 1) 0 ≡ ETX → ⊥)
-    → Bad ≡ pieceOf (drop i s)
+      → Bad ≡ pieceOf (drop i s)
   other-at h e f g = sym (pair-at h e ∙ rw (ne-eqb (getD s (i + 1) 0) DLE f, ne-eqb (getD s (i + 1) 0) ETX g))
 
   closing-at : i + 1 < length s → getD s i 0 ≡ DLE → (getD s (i + 1) 0 ≡ DLE → ⊥) → getD s (i + 1) 0 ≡ ETX
-    → pieceOf (drop i s) ≡ ending (drop (i + 2) s)
+      → pieceOf (drop i s) ≡ ending (drop (i + 2) s)
   closing-at h e f g = pair-at h e ∙ rw (ne-eqb (getD s (i + 1) 0) DLE f, eq-eqb (getD s (i + 1) 0) ETX g)
 
   pub end-at : i + 1 < length s → getD s i 0 ≡ DLE → (getD s (i + 1) 0 ≡ DLE → ⊥) → getD s (i + 1) 0 ≡ ETX
-    → length s - i ≡ 2 → End ≡ pieceOf (drop i s)
+      → length s - i ≡ 2 → End ≡ pieceOf (drop i s)
   end-at h e f g k = sym (closing-at h e f g ∙ ap ending (drop-of-length-le s {i = i + 2} (omega (arith, h, k))))
 
   pub early-at : i + 1 < length s → getD s i 0 ≡ DLE → (getD s (i + 1) 0 ≡ DLE → ⊥) → getD s (i + 1) 0 ≡ ETX
-    → (length s - i ≡ 2 → ⊥) → Bad ≡ pieceOf (drop i s)
+      → (length s - i ≡ 2 → ⊥) → Bad ≡ pieceOf (drop i s)
   early-at h e f g k = sym (closing-at h e f g ∙ ap ending (drop-cons s (i + 2) 0 (omega (arith, h, k))))
 
 -- What a piece says of the content of the bytes that it stands before, and how many bytes it takes.
@@ -140,7 +140,7 @@ tallies-more c b {t} {r} w m =
     record {
       count = omega (arith, m .count, w .count, length-append c (b ∷ []));
       total = omega (arith, m .total, w .total, sum-snoc c b);
-      first = m .first ∙ go c (w .count) (w .first)
+      first = m .first ∙ go c (w .count) (w .first);
     }
   where
     go : (c : List ℕ) → t .count ≡ length c → t .first ≡ getD c 0 0 → cond (eqb (t .count) 0) b (t .first) ≡ getD (c ++ b ∷ []) 0 0
@@ -167,7 +167,7 @@ begins s h =
       rest = sym (prepend-nil (undouble false (drop 2 s)));
       tally = record { count = refl; total = refl; first = refl };
       within = h;
-      short = omega arith
+      short = omega arith;
     }
 
 module _ (s : List ℕ) (i : ℕ) {t : Tally} (w : Scanning s t i) where
@@ -175,17 +175,17 @@ module _ (s : List ℕ) (i : ℕ) {t : Tally} (w : Scanning s t i) where
   says-at e = subst (Says (drop i s)) (sym e) (says (drop i s))
 
   on : {r : Tally} (b k : ℕ) → undouble false (drop i s) ≡ push b (undouble false (drop k (drop i s))) → 1 ≤ k
-    → k ≤ length (drop i s) → OneMore t b r → Scanning s r (i + k)
+      → k ≤ length (drop i s) → OneMore t b r → Scanning s r (i + k)
   on b k e h l m =
       record {
         content = w .content ++ b ∷ [];
         rest =
-          w .rest
-          ∙ ap (prepend (w .content)) (e ∙ ap (λ l. push b (undouble false l)) (drop-drop k i s))
-          ∙ prepend-push (w .content) b (undouble false (drop (i + k) s));
+            w .rest
+            ∙ ap (prepend (w .content)) (e ∙ ap (λ l. push b (undouble false l)) (drop-drop k i s))
+            ∙ prepend-push (w .content) b (undouble false (drop (i + k) s));
         tally = tallies-more (w .content) b (w .tally) m;
         within = omega (arith, l, w .within, length-drop i s);
-        short = omega (arith, h, w .short, length-append (w .content) (b ∷ []))
+        short = omega (arith, h, w .short, length-append (w .content) (b ∷ []));
       }
 
   pub lone-on : {r : Tally} {b : ℕ} → Lone b ≡ pieceOf (drop i s) → OneMore t b r → Scanning s r (i + 1)

@@ -1,13 +1,15 @@
 -- A serial string as it is read: piece by piece.
-use Prim.Native.Nat.{ℕ, _+_, _%_, _^_}
+use Prim.Native.Nat.{ℕ, zero, suc, _+_, _-_, _%_, _^_}
 use mathlib.Core.Path.{_≡_}
 use mathlib.Core.Bool.{cond}
 use mathlib.Core.List.{List, [], _∷_}
 use mathlib.Core.Option.{Option, none, some}
-use lib.ListN.{length, getD}
-use lib.Dec.{eqb}
-use Rattle.protocol.specs.Numbers.{DLE, ETX}
+use lib.ListN.{length, getD, drop}
+use lib.Dec.{eqb, ltb}
+use Rattle.protocol.specs.Numbers.{done, tooShort, tooLong, badChecksum, otherAddress, DLE, ETX, maxContent}
 use Rattle.protocol.specs.Bytes.{sum}
+use Rattle.protocol.specs.Frame.{doubled, readFrame}
+use Rattle.frame.specs.declared.read.Checked.{Checked}
 use Rattle.frame.specs.declared.read.Tally.{Tally}
 use Rattle.frame.specs.declared.read.Scan.{Scan}
 use Rattle.frame.specs.declared.read.Scan.the-variants.{Whole, Broken}
@@ -45,3 +47,33 @@ ScanOf none (Whole t) = ⊥
 ScanOf none Broken = Unit {0}
 ScanOf (some c) (Whole t) = Tallies c t
 ScanOf (some c) Broken = ⊥
+
+-- A refusal, and a content that passes for an address.
+abbrev pub failed : ℕ → Checked
+failed n = record { number = n; len = 0; start = 0 }
+
+abbrev pub passed : ℕ → ℕ → Checked
+passed address count = record { number = done; len = count - 2; start = 2 + length (doubled address) }
+
+-- The judgement of a content by its tally: where the checksum is right, all bytes of the content sum up to 255.
+unfoldable pub judged : ℕ → Tally → Checked
+judged address t =
+    cond (ltb (t .count) 3)
+    (failed tooShort)
+    (cond (ltb maxContent (t .count))
+    (failed tooLong)
+    (cond (eqb (t .sum) 255)
+    (cond (eqb (t .first) address) (passed address (t .count)) (failed otherAddress))
+    (failed badChecksum)))
+
+-- The first n content bytes of doubled bytes, or as many as there are: behind a 10h its second byte is passed over.
+unfoldable pub contentFrom : ℕ → List ℕ → List ℕ
+contentFrom zero bs = []
+contentFrom (suc n) [] = []
+contentFrom (suc n) (b ∷ bs) = b ∷ contentFrom n (drop (length (doubled b)) (b ∷ bs))
+
+-- What `check_frame` says of a string read for an address: number, length of the data, and where the data stands.
+pub record Checks (address : ℕ) (s : List ℕ) (r : Checked) : Type 0 where
+  pub number : r .number ≡ readFrame address s .number
+  pub len : r .len ≡ length (readFrame address s .payload)
+  pub content : contentFrom (r .len) (drop (r .start) s) ≡ readFrame address s .payload

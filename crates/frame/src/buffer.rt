@@ -1,6 +1,5 @@
 // Bytes put into a lent buffer.
 use protocol::DLE;
-
 ghost use mathlib.Core.List.{[], _∷_};
 ghost use Prim.Native.Nat.{_+_, _<_, _≤_};
 ghost use lib.ListN.{length};

@@ -1,8 +1,8 @@
 // PENKO's TP: frames over serial and datagrams over UDP, written and read.
 mod buffer;
 mod checksum;
-mod size;
 pub mod read;
+mod size;
 pub mod write;
 
 // What a call that writes into a lent output returns: a number of document 01, and the length of what it wrote.

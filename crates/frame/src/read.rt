@@ -1,14 +1,28 @@
 // Serial strings, read.
-use super::checksum;
 use super::Written;
-use protocol::{BAD_CHECKSUM, BAD_PAIR, DLE, DONE, ETX, MAX_CONTENT, NO_PREAMBLE, NO_ROOM, OTHER_ADDRESS, ROOM_DATA, STX, TOO_LONG, TOO_SHORT};
-
+use super::buffer;
+use super::checksum;
+use protocol::BAD_CHECKSUM;
+use protocol::BAD_PAIR;
+use protocol::DLE;
+use protocol::DONE;
+use protocol::ETX;
+use protocol::MAX_CONTENT;
+use protocol::NO_PREAMBLE;
+use protocol::NO_ROOM;
+use protocol::OTHER_ADDRESS;
+use protocol::ROOM_DATA;
+use protocol::STX;
+use protocol::TOO_LONG;
+use protocol::TOO_SHORT;
 ghost use mathlib.Core.Path.{_≡_};
 ghost use Prim.Native.Nat.{_+_, _≤_, _<_, _^_};
 ghost use lib.ListN.{length, drop};
 ghost use mathlib.Core.Bool.{false};
-ghost use Rattle.protocol.specs.Frame.{undouble};
-ghost use Rattle.frame.specs.Read.{pieceOf, OneMore, ScanOf};
+ghost use Rattle.protocol.specs.Frame.{doubled, undouble, readFrame, ifRoom};
+ghost use Rattle.protocol.specs.Numbers.{roomData};
+ghost use Rattle.protocol.specs.Buffer.{Put, Emits};
+ghost use Rattle.frame.specs.Read.{pieceOf, OneMore, ScanOf, judged, Checks, contentFrom};
 
 // What stands at a place after 10 02: a lone byte, a doubled 10h, the 10 03 at the very end, or anything else.
 pub(crate) enum Piece {
@@ -101,4 +115,121 @@ fn scan_string(s: &[u8]) -> Scan
         }
     }
     Scan::Broken
+}
+
+// What is known of a string that was read for an address: its number and, with 0, how long its data is and where in the
+// string the data starts. With any other number both are 0.
+pub struct Checked {
+    pub number: u8,
+    pub len: usize,
+    pub start: usize,
+}
+
+// How many bytes a byte takes in a frame.
+fn width(b: u8) -> usize
+    ensures { λ r. ⌜ r ≡ length (doubled b) ⌝ }
+{
+    if b == DLE {
+        return 2;
+    }
+    1
+}
+
+// A content judged by its tally: 4, 5, 6, 7 or 0.
+fn judge(address: u8, t: Tally) -> Checked
+    ensures { λ r. ⌜ r ≡ judged address t ⌝ }
+{
+    let mut r = Checked {
+        number: DONE,
+        len: 0,
+        start: 0,
+    };
+    if t.count < 3 {
+        r.number = TOO_SHORT;
+        return r;
+    }
+    if MAX_CONTENT < t.count {
+        r.number = TOO_LONG;
+        return r;
+    }
+    if t.sum != 255 {
+        r.number = BAD_CHECKSUM;
+        return r;
+    }
+    if t.first != address {
+        r.number = OTHER_ADDRESS;
+        return r;
+    }
+    r.len = t.count - 2;
+    r.start = 2 + width(address);
+    r
+}
+
+// A serial string read for an address, with no output: the number, and where the data stands. What read_frame, and a reader
+// of requests, begin with.
+pub fn check_frame(address: u8, s: &[u8]) -> Checked
+    ensures { λ r. ⌜ Checks address (now (s .entry)) r ⌝ }
+{
+    let unopened = Checked {
+        number: NO_PREAMBLE,
+        len: 0,
+        start: 0,
+    };
+    if s.len() < 2 {
+        return unopened;
+    }
+    if s[0] != DLE {
+        return unopened;
+    }
+    if s[1] != STX {
+        return unopened;
+    }
+    match scan_string(s) {
+        Scan::Whole(t) => judge(address, t),
+        Scan::Broken => Checked {
+            number: BAD_PAIR,
+            len: 0,
+            start: 0,
+        },
+    }
+}
+
+// Content bytes of a string, from a place on, copied to the front of an output: n of them, or as many as there are. Returns
+// how many.
+pub(crate) fn copy_content(s: &[u8], from: usize, n: usize, out: &mut [u8]) -> usize
+    requires { ⌜ n ≤ length (now out) ⌝ }
+    ensures { λ r. ⌜ Put 0 (contentFrom n (drop from (now (s .entry)))) (now (out .entry)) r (now (out .exit)) ⌝ }
+{
+    let mut i = from;
+    let mut k = 0;
+    while k < n {
+        if s.len() <= i {
+            return k;
+        }
+        let b = s[i];
+        k = buffer::put(out, k, b);
+        i += width(b);
+    }
+    k
+}
+
+// A serial string read for an address into a lent output: 8, 2, 3, 4, 5, 6, 7 or 0.
+pub fn read_frame(address: u8, s: &[u8], out: &mut [u8]) -> Written
+    ensures { λ r. ⌜ Emits (ifRoom roomData (length (now (out .entry))) (readFrame address (now (s .entry)))) (now (out .entry)) (r .number) (r .len) (now (out .exit)) ⌝ }
+{
+    if out.len() < ROOM_DATA {
+        return Written {
+            number: NO_ROOM,
+            len: 0,
+        };
+    }
+    let checked = check_frame(address, s);
+    let number = checked.number;
+    if number != DONE {
+        return Written { number, len: 0 };
+    }
+    let start = checked.start;
+    let size = checked.len;
+    let len = copy_content(s, start, size, out);
+    Written { number: DONE, len }
 }

@@ -1,6 +1,8 @@
 // How many bytes data may have.
-use protocol::{DONE, MAX_DATA, TOO_LONG, TOO_SHORT};
-
+use protocol::DONE;
+use protocol::MAX_DATA;
+use protocol::TOO_LONG;
+use protocol::TOO_SHORT;
 ghost use mathlib.Core.Path.{_≡_};
 ghost use Rattle.protocol.specs.Frame.{sizeNumber};
 

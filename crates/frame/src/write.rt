@@ -1,10 +1,14 @@
 // Serial frames, written.
+use super::Written;
 use super::buffer;
 use super::checksum;
 use super::size;
-use super::Written;
-use protocol::{DLE, DONE, ETX, NO_ROOM, ROOM_SERIAL, STX};
-
+use protocol::DLE;
+use protocol::DONE;
+use protocol::ETX;
+use protocol::NO_ROOM;
+use protocol::ROOM_SERIAL;
+use protocol::STX;
 ghost use Prim.Native.Nat.{_+_, _*_, _≤_, _<_, _^_};
 ghost use lib.ListN.{length};
 ghost use Rattle.protocol.specs.Numbers.{roomSerial};
@@ -54,7 +58,10 @@ pub fn write_frame(address: u8, payload: &[u8], out: &mut [u8]) -> Written
     ensures { λ r. ⌜ Emits (ifRoom roomSerial (length (now (out .entry))) (writeFrame address (now (payload .entry)))) (now (out .entry)) (r .number) (r .len) (now (out .exit)) ⌝ }
 {
     if out.len() < ROOM_SERIAL {
-        return Written { number: NO_ROOM, len: 0 };
+        return Written {
+            number: NO_ROOM,
+            len: 0,
+        };
     }
     let number = size::size_number(payload.len());
     if number != DONE {

@@ -64,7 +64,7 @@ unfolding putAt
 put-nil at xs =
     record {
       next = omega arith;
-      bytes = sym (ap (λ n. take at xs ++ drop n xs) (add-zero at) ∙ take-append-drop at xs)
+      bytes = sym (ap (λ n. take at xs ++ drop n xs) (add-zero at) ∙ take-append-drop at xs);
     }
 
 -- A helper's bytes behind those of another.
@@ -95,18 +95,18 @@ unfolding ifRoom
 emits-no-room least room w old h = rw (lt-ltb room least h) (emits-refused noRoom old)
 
 pub emits-in-room : {least room : ℕ} {w : Received} {old new : List ℕ} {n size : ℕ} → least ≤ room → Emits w old n size new
-  → Emits (ifRoom least room w) old n size new
+    → Emits (ifRoom least room w) old n size new
 unfolding ifRoom
 emits-in-room {least} {room} h e = rw (le-ltb room least h) e
 
 pub emits-unsized : (bs : List ℕ) (w : Received) (old : List ℕ) {n : ℕ} → n ≡ sizeNumber (length bs) → (n ≡ done → ⊥)
-  → Emits (ifSized bs w) old n 0 old
+    → Emits (ifSized bs w) old n 0 old
 unfolding ifSized
 emits-unsized bs w old {n} e h =
     rw (ne-eqb (sizeNumber (length bs)) done (λ d. h (e ∙ d)))
     (subst (λ m. Emits (refused m) old n 0 old) e (emits-refused n old))
 
 pub emits-sized : (bs : List ℕ) {w : Received} {old new : List ℕ} {n size : ℕ} → sizeNumber (length bs) ≡ done → Emits w old n size new
-  → Emits (ifSized bs w) old n size new
+    → Emits (ifSized bs w) old n size new
 unfolding ifSized
 emits-sized bs h e = rw (eq-eqb (sizeNumber (length bs)) done h) e

@@ -2,7 +2,7 @@
 -- Assumes nothing.
 use Prim.Native.Nat.{ℕ, suc, _+_, _-_, _*_, _<_, _≤_}
 use native.Mathlib.Omega.{arith}
-use mathlib.Core.Path.{_≡_, refl, sym, ap, ap₂, _∙_}
+use mathlib.Core.Path.{_≡_, refl, sym, ap, ap₂, subst, _∙_}
 use mathlib.Core.Bool.{Bool, true, false, cond, _&&_, false≢true}
 use mathlib.Core.List.{List, [], _∷_, _++_, append-assoc, append-nil}
 use mathlib.Core.Option.{Option, none, some, Option·none-ne-some, Option·some-injective}
@@ -11,10 +11,10 @@ use native.Mathlib.Nat.{not-suc-le-zero, le-of-suc-le-suc, le-refl}
 use lib.ListN.{length, getD, take, drop, length-append}
 use lib.Seq.{take-at, getD-at, take-suc, take-length}
 use lib.Dec.{eqb, ltb, leb}
-use Rattle.protocol.specs.Numbers.{done, noPreamble, tooShort, tooLong, badChecksum, otherAddress, maxData, maxContent, DLE, STX, ETX}
-use Rattle.protocol.specs.Bytes.{every}
-use Rattle.protocol.proofs.TestLaws.{and-left, and-right, every-at}
-use Rattle.protocol.proofs.ListLaws.{init-last}
+use Rattle.protocol.specs.Numbers.{done, noPreamble, badPair, tooShort, tooLong, badChecksum, otherAddress, maxData, maxContent, DLE, STX, ETX}
+use Rattle.protocol.specs.Bytes.{Bytes, every}
+use Rattle.protocol.proofs.TestLaws.{and-left, and-right, if-both, every-at}
+use Rattle.protocol.proofs.ListLaws.{init-last, bytes-cons}
 use Rattle.protocol.specs.Frame.{Received, doubled, double, undouble, push, atEnd, checksum, contentOf, addressIn, dataIn, checksumIn, received, refused, judge, judgeWhole, readFrame, frame, wrap, Sized, sizeNumber, ifSized, datagram, readDatagram, fourZeros}
 
 pub double-nil : double [] ≡ []
@@ -53,6 +53,19 @@ pub length-double : (c : List ℕ) → length (double c) ≤ 2 * length c
 unfolding double
 length-double [] = omega arith
 length-double (b ∷ c) = omega (arith, length-doubled b, length-double c, length-append (doubled b) (double c))
+
+-- What bytes are the doubling of is bytes.
+pub bytes-undouble : (c : List ℕ) → Bytes (double c) → Bytes c
+bytes-undouble [] all = λ i. omega arith
+bytes-undouble (b ∷ c) all = go (eqb b DLE) refl (bytes-undouble c)
+  where
+    go : (t : Bool) → eqb b DLE ≡ t → (Bytes (double c) → Bytes c) → Bytes (b ∷ c)
+    go true e ih =
+        let doubled : Bytes (DLE ∷ DLE ∷ double c) = subst Bytes (double-dle b c e) all in
+        bytes-cons b c (rw (eqb-true b DLE e) (omega arith)) (ih (λ i. doubled (suc (suc i))))
+    go false e ih =
+        let alone : Bytes (b ∷ double c) = subst Bytes (double-lone b c e) all in
+        bytes-cons b c (alone 0) (ih (λ i. alone (suc i)))
 
 -- One byte read: alone, the first of a pair, and the second of one.
 pub undouble-lone : (b : ℕ) (bs : List ℕ) → eqb b DLE ≡ false → undouble false (b ∷ bs) ≡ push b (undouble false bs)
@@ -95,19 +108,19 @@ atEnd-some [] c h = (refl, sym (Option·some-injective _ _ h))
 atEnd-some (b ∷ bs) c h = absurd (Option·none-ne-some _ h)
 
 -- A 10h that waits stands in front of the bytes still to be read.
-abbrev waiting : Bool → List ℕ → List ℕ
+abbrev pub waiting : Bool → List ℕ → List ℕ
 waiting true bs = DLE ∷ bs
 waiting false bs = bs
 
 -- The bytes of a content, as they stand before the end of a frame.
-abbrev closing : List ℕ → List ℕ
+abbrev pub closing : List ℕ → List ℕ
 closing l = l ++ DLE ∷ ETX ∷ []
 
-abbrev ended : List ℕ → List ℕ
+abbrev pub ended : List ℕ → List ℕ
 ended c = closing (double c)
 
 -- What reads as a content is that content doubled, and 10 03.
-double-undouble : (s : List ℕ) (w : Bool) (c : List ℕ) → undouble w s ≡ some c → waiting w s ≡ ended c
+pub double-undouble : (s : List ℕ) (w : Bool) (c : List ℕ) → undouble w s ≡ some c → waiting w s ≡ ended c
 unfolding undouble
 double-undouble [] true c h = absurd (Option·none-ne-some _ h)
 double-undouble [] false c h = absurd (Option·none-ne-some _ h)
@@ -137,7 +150,7 @@ double-undouble (b ∷ bs) false c h = go (eqb b DLE) refl (double-undouble bs t
         ap (λ l. b ∷ l) (ih₂ (p .0) (p .1)) ∙ sym (ap ended (p .2) ∙ ap closing (double-lone b (p .0) e))
 
 -- A content of at least two bytes is its address, its data and its checksum.
-parts : (c : List ℕ) → 2 ≤ length c → c ≡ addressIn c ∷ (dataIn c ++ checksumIn c ∷ [])
+pub parts : (c : List ℕ) → 2 ≤ length c → c ≡ addressIn c ∷ (dataIn c ++ checksumIn c ∷ [])
 parts [] h = absurd (not-suc-le-zero h)
 parts (x ∷ []) h = absurd (not-suc-le-zero (le-of-suc-le-suc h))
 parts (x ∷ y ∷ ys) h =
@@ -189,14 +202,14 @@ pub record Good (a : ℕ) (c d : List ℕ) : Type 0 where
   pub least : 1 ≤ length d
 
 -- The tests of `judge`, by name.
-abbrev isShort : List ℕ → Bool
+abbrev pub isShort : List ℕ → Bool
 isShort c = ltb (length c) 3
 
-abbrev isSummed : List ℕ → Bool
+abbrev pub isSummed : List ℕ → Bool
 isSummed c = eqb (checksumIn c) (checksum (take (length c - 1) c))
 
 -- What the checksum is taken of: address and data.
-front : (c : List ℕ) → 2 ≤ length c → take (length c - 1) c ≡ addressIn c ∷ dataIn c
+pub front : (c : List ℕ) → 2 ≤ length c → take (length c - 1) c ≡ addressIn c ∷ dataIn c
 front [] h = absurd (not-suc-le-zero h)
 front (x ∷ xs) h =
     let e : length (x ∷ xs) - 1 ≡ suc (length (x ∷ xs) - 2) = omega arith in
@@ -216,7 +229,7 @@ good a c h s e =
     }
 
 -- `judge`, by the outcome of its tests.
-judge-by : (a : ℕ) (c : List ℕ) (t u v : Bool) → isShort c ≡ t → isSummed c ≡ u → eqb (addressIn c) a ≡ v
+pub judge-by : (a : ℕ) (c : List ℕ) (t u v : Bool) → isShort c ≡ t → isSummed c ≡ u → eqb (addressIn c) a ≡ v
     → judge a c ≡ cond t (refused tooShort) (cond u (cond v (received (dataIn c)) (refused otherAddress)) (refused badChecksum))
 unfolding judge
 judge-by a c t u v s p q = rw (s, p, q)
@@ -250,7 +263,7 @@ pub record Written (form : List ℕ → List ℕ) (s d : List ℕ) : Type 0 wher
   pub written : s ≡ form d
   pub size : Sized d
 
-judgeWhole-by : (a : ℕ) (c : List ℕ) (t : Bool) → ltb maxContent (length c) ≡ t
+pub judgeWhole-by : (a : ℕ) (c : List ℕ) (t : Bool) → ltb maxContent (length c) ≡ t
     → judgeWhole a (some c) ≡ cond t (refused tooLong) (judge a c)
 unfolding judgeWhole
 judgeWhole-by a c t e = rw e
@@ -278,10 +291,10 @@ judgeWhole-only a (some c) h = go (ltb maxContent (length c)) refl
         }
 
 -- The test on the first two bytes.
-abbrev isOpened : List ℕ → Bool
+abbrev pub isOpened : List ℕ → Bool
 isOpened s = eqb (getD s 0 0) DLE && eqb (getD s 1 0) STX
 
-opened : (s : List ℕ) → isOpened s ≡ true → s ≡ DLE ∷ STX ∷ drop 2 s
+pub opened : (s : List ℕ) → isOpened s ≡ true → s ≡ DLE ∷ STX ∷ drop 2 s
 opened [] h = absurd (false≢true h)
 opened (x ∷ []) h = absurd (false≢true (and-right (eqb x DLE) false h))
 opened (x ∷ y ∷ ys) h =
@@ -289,7 +302,7 @@ opened (x ∷ y ∷ ys) h =
     (eqb-true x DLE (and-left (eqb x DLE) (eqb y STX) h))
     (eqb-true y STX (and-right (eqb x DLE) (eqb y STX) h))
 
-readFrame-by : (a : ℕ) (s : List ℕ) (t : Bool) → isOpened s ≡ t
+pub readFrame-by : (a : ℕ) (s : List ℕ) (t : Bool) → isOpened s ≡ t
     → readFrame a s ≡ cond t (judgeWhole a (undouble false (drop 2 s))) (refused noPreamble)
 unfolding readFrame
 readFrame-by a s t e = rw e
@@ -397,3 +410,41 @@ readDatagram-only s h = go (fourZeros s) refl
 pub datagram-injective : (d d′ : List ℕ) → datagram d ≡ datagram d′ → d ≡ d′
 unfolding datagram
 datagram-injective d d′ h = ap (drop 4) h
+
+-- A refusal hands no data back.
+record Plain (r : Received) : Type 0 where
+  none-back : (r .number ≡ done → ⊥) → r .payload ≡ []
+
+received-plain : (d : List ℕ) → Plain (received d)
+received-plain d = record { none-back = λ h. absurd (h refl) }
+
+refused-plain : (n : ℕ) → Plain (refused n)
+refused-plain n = record { none-back = λ h. refl }
+
+judge-plain : (a : ℕ) (c : List ℕ) → Plain (judge a c)
+unfolding judge
+judge-plain a c =
+    if-both Plain (isShort c) (refused-plain tooShort)
+    (if-both Plain (isSummed c)
+    (if-both Plain (eqb (addressIn c) a) (received-plain (dataIn c)) (refused-plain otherAddress))
+    (refused-plain badChecksum))
+
+judgeWhole-plain : (a : ℕ) (o : Option (List ℕ)) → Plain (judgeWhole a o)
+unfolding judgeWhole
+judgeWhole-plain a none = refused-plain badPair
+judgeWhole-plain a (some c) = if-both Plain (ltb maxContent (length c)) (refused-plain tooLong) (judge-plain a c)
+
+pub readFrame-refused : (a : ℕ) (s : List ℕ) → (readFrame a s .number ≡ done → ⊥) → readFrame a s .payload ≡ []
+unfolding readFrame
+readFrame-refused a s =
+    if-both Plain (isOpened s) (judgeWhole-plain a (undouble false (drop 2 s))) (refused-plain noPreamble) .none-back
+
+ifSized-plain : (d : List ℕ) → Plain (ifSized d (received d))
+unfolding ifSized
+ifSized-plain d =
+    if-both Plain (eqb (sizeNumber (length d)) done) (received-plain d) (refused-plain (sizeNumber (length d)))
+
+pub readDatagram-refused : (s : List ℕ) → (readDatagram s .number ≡ done → ⊥) → readDatagram s .payload ≡ []
+unfolding readDatagram
+readDatagram-refused s =
+    if-both Plain (fourZeros s) (ifSized-plain (drop 4 s)) (refused-plain noPreamble) .none-back

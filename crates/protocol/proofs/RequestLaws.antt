@@ -17,8 +17,8 @@ use Rattle.protocol.specs.Bytes.{Bytes, every, word, number}
 use Rattle.protocol.specs.Frame.{Received, double, checksum, contentOf, wrap, frame, datagram, readFrame, readDatagram, received, Sized}
 use Rattle.protocol.specs.Request.{Request, nonzero, isPath, asksPath, asksIndex, asksValue, pathFits, indexFits, valueFits, fits, allowance, Allowed, indexPart, valuePart, dataOf, serialForm, udpForm, Asked, noRequest, declined, askedIf, beforeZero, readIndexed, readValued, readShape, readRequest, readPayload, readSerial, readUdp}
 use Rattle.protocol.proofs.TestLaws.{and-left, and-right, every-append, every-one}
-use Rattle.protocol.proofs.ListLaws.{init-last, number-word, word-of-four, bytes-drop, bytes-left, bytes-cons}
-use Rattle.protocol.proofs.FrameLaws.{double-dle, double-lone, readFrame-frame, readFrame-only, frame-injective, readDatagram-datagram, readDatagram-only, datagram-injective, Written}
+use Rattle.protocol.proofs.ListLaws.{init-last, number-word, word-of-four, bytes-drop, bytes-left}
+use Rattle.protocol.proofs.FrameLaws.{bytes-undouble, readFrame-frame, readFrame-only, frame-injective, readDatagram-datagram, readDatagram-only, datagram-injective, Written}
 
 -- What fits the table, part by part.
 record Fit (r : Request) : Type 0 where
@@ -435,18 +435,6 @@ module _ (form : List ℕ → List ℕ) (reads : List ℕ → Received) (carrier
   )
 
 -- The data of a frame or a datagram of bytes is bytes.
-bytes-undouble : (c : List ℕ) → Bytes (double c) → Bytes c
-bytes-undouble [] all = λ i. omega arith
-bytes-undouble (b ∷ c) all = go (eqb b DLE) refl (bytes-undouble c)
-  where
-    go : (t : Bool) → eqb b DLE ≡ t → (Bytes (double c) → Bytes c) → Bytes (b ∷ c)
-    go true e ih =
-        let doubled : Bytes (DLE ∷ DLE ∷ double c) = subst Bytes (double-dle b c e) all in
-        bytes-cons b c (rw (eqb-true b DLE e) (omega arith)) (ih (λ i. doubled (suc (suc i))))
-    go false e ih =
-        let alone : Bytes (b ∷ double c) = subst Bytes (double-lone b c e) all in
-        bytes-cons b c (alone 0) (ih (λ i. alone (suc i)))
-
 frame-bytes : (a : ℕ) (d : List ℕ) → Bytes (frame a d) → Bytes d
 unfolding frame wrap contentOf
 frame-bytes a d all =

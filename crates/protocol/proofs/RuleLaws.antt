@@ -19,6 +19,7 @@ use Rattle.protocol.specs.Frame.{checksum}
 use Rattle.protocol.specs.Tree.{Property, Tree, Cell, isSigned, isLive, propertyIn, cellIn, posted, post, sound, nodesSound, propertiesSound, propertySound, parentsSound, parentsFrom, depthsSound, depthsAfter, liveSound, kindSound, standardSound, enumerationSound, isName, optionsSound, cellsSound}
 use Rattle.protocol.specs.Answer.{inRange, plain, refusalCode, answer}
 use Rattle.protocol.specs.Bench.{benchTree, benchCells}
+use Rattle.protocol.proofs.TestLaws.{leb-same}
 
 -- The checksum fills the sum of what it is taken of up to 255, mod 256.
 pub checksum-fills : (bs : List ℕ) → (sum bs + checksum bs) % 2 ^ 8 ≡ 255
@@ -29,15 +30,6 @@ checksum-fills bs = omega arith
 pub unsigned-order : (m n : ℕ) → atMost false m n ≡ leb m n
 unfolding atMost ordered
 unsigned-order m n = refl
-
-leb-same : (a b c d : ℕ) → (a ≤ b → c ≤ d) → (c ≤ d → a ≤ b) → leb a b ≡ leb c d
-leb-same a b c d f g = go (leb a b) refl (leb c d) refl
-  where
-    go : (t : Bool) → leb a b ≡ t → (u : Bool) → leb c d ≡ u → leb a b ≡ leb c d
-    go true e true h = e ∙ sym h
-    go true e false h = absurd (omega (arith, f (leb-true a b e), leb-false c d h))
-    go false e true h = absurd (omega (arith, g (leb-true c d h), leb-false a b e))
-    go false e false h = e ∙ sym h
 
 positive : (n : ℕ) → ltb n (2 ^ 31) ≡ true → toZ w32 n ≡ pos n
 positive n e = rw e

@@ -1,10 +1,13 @@
 -- Tests: their conjunction, an answer that a test picks, and a test on every entry of a list.
 -- Assumes nothing.
-use Prim.Native.Nat.{ℕ, zero, suc}
-use mathlib.Core.Path.{_≡_, refl, sym, ap₂}
+use Prim.Native.Nat.{ℕ, zero, suc, _≤_}
+use native.Mathlib.Omega.{arith}
+use mathlib.Core.Path.{_≡_, refl, sym, _∙_}
 use mathlib.Core.Bool.{Bool, true, false, cond, _&&_, and-eq-true-iff}
 use mathlib.Core.List.{List, [], _∷_, _++_}
+use borrow.Author.Tests.{eqb-true, eqb-false, leb-true, leb-false}
 use lib.ListN.{getD}
+use lib.Dec.{eqb, leb}
 use Rattle.protocol.specs.Bytes.{every}
 
 -- Both tests pass.
@@ -16,6 +19,25 @@ and-right a b h = and-eq-true-iff a b .0 h .1
 
 pub and-both : {a b : Bool} → a ≡ true → b ≡ true → (a && b) ≡ true
 and-both {a} {b} p q = and-eq-true-iff a b .1 (p, q)
+
+-- Two tests that hold together come out the same.
+pub eqb-same : (a b c d : ℕ) → (a ≡ b → c ≡ d) → (c ≡ d → a ≡ b) → eqb a b ≡ eqb c d
+eqb-same a b c d f g = go (eqb a b) refl (eqb c d) refl
+  where
+    go : (t : Bool) → eqb a b ≡ t → (u : Bool) → eqb c d ≡ u → eqb a b ≡ eqb c d
+    go true e true h = e ∙ sym h
+    go true e false h = absurd (eqb-false c d h (f (eqb-true a b e)))
+    go false e true h = absurd (eqb-false a b e (g (eqb-true c d h)))
+    go false e false h = e ∙ sym h
+
+pub leb-same : (a b c d : ℕ) → (a ≤ b → c ≤ d) → (c ≤ d → a ≤ b) → leb a b ≡ leb c d
+leb-same a b c d f g = go (leb a b) refl (leb c d) refl
+  where
+    go : (t : Bool) → leb a b ≡ t → (u : Bool) → leb c d ≡ u → leb a b ≡ leb c d
+    go true e true h = e ∙ sym h
+    go true e false h = absurd (omega (arith, f (leb-true a b e), leb-false c d h))
+    go false e true h = absurd (omega (arith, g (leb-true c d h), leb-false a b e))
+    go false e false h = e ∙ sym h
 
 -- A fact of both answers of a test is one of the answer that it picks; each may use how the test came out.
 pub if-both : {A : Type 0} (P : A → Type 0) (t : Bool) {x y : A} → P x → P y → P (cond t x y)

@@ -18,7 +18,7 @@ shared-slice-read-b c = search needs
 
 -- src/read.rt:25:9
 returns : tie.Need-returns
-returns c = 
+returns c =
     let start = c .before .before in
     lone-at (start .args .s .now) (start .args .i) (start .pre) (c .if1 .taken)
 
@@ -28,7 +28,7 @@ sub-left c = search needs
 
 -- src/read.rt:29:9
 returns-2 : tie.Need-returns-2
-returns-2 c = 
+returns-2 c =
     let start = c .before .before .before in
     alone-at (start .args .s .now) (start .args .i) (start .pre) (omega (arith, c .if2 .taken)) (c .before .if1 .left)
 
@@ -42,13 +42,13 @@ shared-slice-read-p c = search needs
 
 -- src/read.rt:33:9
 returns-3 : tie.Need-returns-3
-returns-3 c = 
+returns-3 c =
     let start = c .before .before .before .before .before in
     doubled-at (start .args .s .now) (start .args .i) (two (c .before .before)) (c .before .before .before .if1 .left) (c .if3 .taken)
 
 -- src/read.rt:36:9
 returns-4 : tie.Need-returns-4
-returns-4 c = 
+returns-4 c =
     let else3 = c .before in
     let start = else3 .before .before .before .before .before in
     other-at (start .args .s .now) (start .args .i) (two (else3 .before .before)) (else3 .before .before .before .if1 .left)
@@ -56,7 +56,7 @@ returns-4 c =
 
 -- src/read.rt:39:9
 returns-5 : tie.Need-returns-5
-returns-5 c = 
+returns-5 c =
     let else3 = c .before .before in
     let start = else3 .before .before .before .before .before in
     end-at (start .args .s .now) (start .args .i) (two (else3 .before .before)) (else3 .before .before .before .if1 .left)
@@ -64,7 +64,7 @@ returns-5 c =
 
 -- src/read.rt:19:1
 returns-6 : tie.Need-returns-6
-returns-6 c = 
+returns-6 c =
     let else3 = c .before .before in
     let start = else3 .before .before .before .before .before in
     early-at (start .args .s .now) (start .args .i) (two (else3 .before .before)) (else3 .before .before .before .if1 .left)

@@ -41,8 +41,8 @@ with-byte-requires c κs = few (c .before .before .before .before)
 
 -- A doubled 10h is passed.
 doubled : (c : tie.After-with-byte2 Inv-loop μ-loop)
-  → let at-loop = c .before .before .before .before .before in
-  Scanning (at-loop .before .before .args .s .now) (c .with-byte2 .result) (at-loop .loop .i + 2)
+    → let at-loop = c .before .before .before .before .before in
+    Scanning (at-loop .before .before .args .s .now) (c .with-byte2 .result) (at-loop .loop .i + 2)
 doubled c =
     let told = c .before in
     let piece = told .before .before in
@@ -60,7 +60,7 @@ loop-less c = omega arith
 
 -- src/read.rt:89:5
 loop-again : tie.Need-loop-again Inv-loop μ-loop
-loop-again c = 
+loop-again c =
     let told = c .before .before in
     let piece = told .before .before in
     let at-loop = piece .before .before in
@@ -93,7 +93,7 @@ enum-told-2 c = search needs
 
 -- src/read.rt:99:27
 returns : tie.Need-returns Inv-loop μ-loop
-returns c = 
+returns c =
     let piece = c .before .before in
     let at-loop = piece .before .before in
     whole (at-loop .before .before .args .s .now) (at-loop .loop .i) (at-loop .loop .inv)
@@ -105,7 +105,7 @@ enum-told-3 c = search needs
 
 -- src/read.rt:100:27
 returns-2 : tie.Need-returns-2 Inv-loop μ-loop
-returns-2 c = 
+returns-2 c =
     let piece = c .before .before in
     let at-loop = piece .before .before in
     broken (at-loop .before .before .args .s .now) (at-loop .loop .i) (at-loop .loop .inv)

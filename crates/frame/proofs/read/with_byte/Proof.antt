@@ -14,12 +14,12 @@ add-requires c κs = search needs
 
 -- src/read.rt:60:9
 returns : tie.Need-returns
-returns c = 
+returns c =
     let start = c .before .before .before in
     record {
       count = omega (arith, c .if1 .taken);
       total = c .before .before .add .ensures;
-      first = rw (eq-eqb (start .args .t .count) 0 (c .if1 .taken))
+      first = rw (eq-eqb (start .args .t .count) 0 (c .if1 .taken));
     }
 
 -- src/read.rt:67:16
@@ -28,12 +28,12 @@ add-t5 c = search needs
 
 -- src/read.rt:54:1
 returns-2 : tie.Need-returns-2
-returns-2 c = 
+returns-2 c =
     let start = c .before .before .before .before in
     record {
       count = refl;
       total = c .before .before .before .add .ensures;
-      first = rw (ne-eqb (start .args .t .count) 0 (c .before .if1 .left))
+      first = rw (ne-eqb (start .args .t .count) 0 (c .before .if1 .left));
     }
 
 pub with-byte-spec : {M : Type 1} → statement M

@@ -24,7 +24,7 @@ left c =
 
 -- src/write.rt:29:5
 loop-holds : tie.Need-loop-holds Inv-loop μ-loop
-loop-holds c = 
+loop-holds c =
     let start = c .before .before in
     begins (start .args .payload .now) (start .args .out .now) (start .args .from) (start .args .first)
     (start .pre .0) (start .pre .1)
@@ -39,7 +39,7 @@ put-doubled-requires c κs = left (c .before .before)
 
 -- src/write.rt:32:9
 add-requires : tie.Need-add-requires Inv-loop μ-loop
-add-requires c κs = 
+add-requires c κs =
     let at-loop = c .before .before .before .before .before .before in
     omega (arith, at-loop .loop .inv .body .summed)
 
@@ -53,7 +53,7 @@ loop-less c = omega arith
 
 -- src/write.rt:29:5
 loop-again : tie.Need-loop-again Inv-loop μ-loop
-loop-again c = 
+loop-again c =
     let in-loop = c .before .before .before .before .before .before in
     let at-loop = in-loop .before in
     let start = at-loop .before .before .before in
@@ -62,14 +62,14 @@ loop-again c =
 
 -- src/write.rt:22:1
 same-length : tie.Need-same-length Inv-loop μ-loop
-same-length c = 
+same-length c =
     let start = c .before .before .before .before in
     same (start .args .payload .now) (start .args .out .now) (start .args .from) (start .args .first) (start .pre .0)
     (c .before .loop .inv)
 
 -- src/write.rt:22:1
 returns : tie.Need-returns Inv-loop μ-loop
-returns c = 
+returns c =
     let start = c .before .before .before .before in
     ends (start .args .payload .now) (start .args .out .now) (start .args .from) (start .args .first) (start .pre .0)
     (c .before .loop .inv) (c .loop-test .left)

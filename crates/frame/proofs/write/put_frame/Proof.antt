@@ -39,22 +39,22 @@ sum-5 c = c .before .before .before .before .before .put-body .result .sum
 
 -- What stands in the output after each call: the pieces of the frame so far, from the front.
 opened : (c : tie.After-put2)
-  → Put 0 (DLE ∷ STX ∷ []) (start-2 c .args .out .now) (c .put2 .result) (c .put2 .last .0)
+    → Put 0 (DLE ∷ STX ∷ []) (start-2 c .args .out .now) (c .put2 .result) (c .put2 .last .0)
 opened c = puts (omega arith) (c .before .before .before .before .put .ensures) (c .put2 .ensures)
 
 addressed : (c : tie.After-put-doubled)
-  → Put 0 (DLE ∷ STX ∷ doubled (start-3 c .args .address)) (start-3 c .args .out .now) (c .put-doubled .result) (c .put-doubled .last .0)
+    → Put 0 (DLE ∷ STX ∷ doubled (start-3 c .args .address)) (start-3 c .args .out .now) (c .put-doubled .result) (c .put-doubled .last .0)
 addressed c = puts (omega arith) (opened (c .before .before .before .before)) (c .put-doubled .ensures)
 
 filled : (c : tie.After-put-body)
-  → Put 0 (front (start-4 c .args .address) (start-4 c .args .payload .now)) (start-4 c .args .out .now) (c .put-body .result .at) (c .put-body .last .1 .0)
+    → Put 0 (front (start-4 c .args .address) (start-4 c .args .payload .now)) (start-4 c .args .out .now) (c .put-body .result .at) (c .put-body .last .1 .0)
 filled c = puts (omega arith) (addressed (c .before .before .before .before)) (c .put-body .ensures .put)
 
 abbrev checked : tie.After-put-doubled2 → List ℕ
 checked c = front (start-5 c .args .address) (start-5 c .args .payload .now) ++ doubled (255 - sum-5 c)
 
 summed : (c : tie.After-put-doubled2)
-  → Put 0 (checked c) (start-5 c .args .out .now) (c .put-doubled2 .result) (c .put-doubled2 .last .0)
+    → Put 0 (checked c) (start-5 c .args .out .now) (c .put-doubled2 .result) (c .put-doubled2 .last .0)
 summed c = puts (omega arith) (filled (c .before .before .before .before .before)) (c .put-doubled2 .ensures)
 
 short : (c : tie.After-put-doubled2) → 0 + length (checked c) + 2 ≤ length (start-5 c .args .out .now)
@@ -62,16 +62,17 @@ short c =
     let start = start-5 c in
     let a = start .args .address in
     let d = start .args .payload .now in
-    omega
-    (arith,
-    start .pre .0,
-    start .pre .1,
-    front-short a d,
-    length-doubled (255 - sum-5 c),
-    length-append (front a d) (doubled (255 - sum-5 c)))
+    omega (
+      arith,
+      start .pre .0,
+      start .pre .1,
+      front-short a d,
+      length-doubled (255 - sum-5 c),
+      length-append (front a d) (doubled (255 - sum-5 c)),
+    )
 
 closing : (c : tie.After-put3)
-  → Put 0 (checked (c .before .before .before .before) ++ DLE ∷ []) (start-6 c .args .out .now) (c .put3 .result) (c .put3 .last .0)
+    → Put 0 (checked (c .before .before .before .before) ++ DLE ∷ []) (start-6 c .args .out .now) (c .put3 .result) (c .put3 .last .0)
 closing c = puts (omega arith) (summed (c .before .before .before .before)) (c .put3 .ensures)
 
 -- src/write.rt:43:9
@@ -88,12 +89,13 @@ put-doubled-requires c κs = search needs
 
 -- src/write.rt:46:9
 put-body-requires : tie.Need-put-body-requires
-put-body-requires c κs = 
+put-body-requires c κs =
     let d = c .before .before .before in
-    let start = start-3 d in
-    (put-room (addressed d) (2 * length (start .args .payload .now))
-    (omega (arith, start .pre .0, start .pre .1, length-doubled (start .args .address))),
-    omega (arith, start .fits .address .fits))
+    let start = start-3 d in (
+      put-room (addressed d) (2 * length (start .args .payload .now))
+          (omega (arith, start .pre .0, start .pre .1, length-doubled (start .args .address))),
+      omega (arith, start .fits .address .fits),
+    )
 
 -- src/write.rt:47:53
 sub-put-doubled : tie.Need-sub-put-doubled
@@ -105,7 +107,7 @@ cast-put-doubled c = search needs
 
 -- src/write.rt:47:9
 put-doubled-requires-2 : tie.Need-put-doubled-requires-2
-put-doubled-requires-2 c κs = 
+put-doubled-requires-2 c κs =
     let b = c .before .before .before .before in
     let start = start-4 b in
     put-room (filled b) 2
@@ -113,18 +115,18 @@ put-doubled-requires-2 c κs =
 
 -- src/write.rt:48:9
 put-requires-3 : tie.Need-put-requires-3
-put-requires-3 c κs = 
+put-requires-3 c κs =
     let d = c .before .before .before in
     let room : d .put-doubled2 .result + 2 ≤ length (d .put-doubled2 .last .0) = put-room (summed d) 2 (short d) in
     omega (arith, room)
 
 -- src/write.rt:49:5
 put-requires-4 : tie.Need-put-requires-4
-put-requires-4 c κs = 
+put-requires-4 c κs =
     let d = c .before .before .before .before .before .before .before in
     let room : c .before .before .before .put3 .result + 1 ≤ length (c .before .before .before .put3 .last .0) =
-          put-room (closing (c .before .before .before)) 1
-          (omega (arith, short d, length-append (checked d) (DLE ∷ []))) in
+    put-room (closing (c .before .before .before)) 1
+    (omega (arith, short d, length-append (checked d) (DLE ∷ []))) in
     omega (arith, room)
 
 -- src/write.rt:39:1
@@ -133,7 +135,7 @@ same-length c = search needs
 
 -- src/write.rt:39:1
 returns : tie.Need-returns
-returns c = 
+returns c =
     let p = c .before .before in
     let d = p .before .before .before .before .before .before .before .before in
     let body = d .before .before .before .before .before in

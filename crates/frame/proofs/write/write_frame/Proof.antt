@@ -20,17 +20,18 @@ size-number-requires c κs = search needs
 
 -- src/write.rt:61:9
 returns-2 : tie.Need-returns-2
-returns-2 c = 
+returns-2 c =
     let start = c .before .before .before .before .before in
     emits-in-room (c .before .before .if1 .left)
     (emits-unsized (start .args .payload .now) _ _ (c .before .size-number .ensures) (c .if2 .taken))
 
 -- src/write.rt:63:9
 put-frame-requires : tie.Need-put-frame-requires
-put-frame-requires c κs = 
-    let start = c .before .before .before .before .before .before in
-    (size-only (start .args .payload .now) (sym (c .before .before .size-number .ensures) ∙ c .before .if2 .left) .most,
-    c .before .before .before .if1 .left)
+put-frame-requires c κs =
+    let start = c .before .before .before .before .before .before in (
+      size-only (start .args .payload .now) (sym (c .before .before .size-number .ensures) ∙ c .before .if2 .left) .most,
+      c .before .before .before .if1 .left,
+    )
 
 -- src/write.rt:53:1
 same-length : tie.Need-same-length

@@ -1,0 +1,298 @@
+-- A serial string checked, and its data copied out of it.
+-- Assumes nothing.
+use Prim.Native.Nat.{ℕ, zero, suc, _+_, _-_, _%_, _^_, _<_, _≤_}
+use native.Mathlib.Omega.{arith}
+use native.Mathlib.Nat.{sub-zero}
+use mathlib.Core.Path.{_≡_, refl, sym, ap, ap₂, subst, _∙_}
+use mathlib.Core.Bool.{Bool, true, false, cond, _&&_, false≢true}
+use mathlib.Core.List.{List, [], _∷_, _++_, append-assoc, append-nil}
+use mathlib.Core.Option.{Option, none, some}
+use borrow.Author.Tests.{eq-eqb, ne-eqb, eqb-true, eqb-false, lt-ltb, le-ltb, ltb-true, ltb-false}
+use lib.ListN.{length, getD, take, drop, length-append, drop-of-length-le}
+use lib.Seq.{drop-cons, drop-drop, drop-at, drop-append-seam}
+use lib.Dec.{eqb, ltb}
+use Rattle.protocol.specs.Numbers.{done, noPreamble, badPair, tooShort, tooLong, badChecksum, otherAddress, DLE, STX, ETX, maxData, maxContent, byteEnd}
+use Rattle.protocol.specs.Bytes.{Bytes, sum}
+use Rattle.protocol.specs.Frame.{Received, refused, received, doubled, double, checksum, contentOf, wrap, frame, undouble, judge, judgeWhole, readFrame, addressIn, dataIn, checksumIn}
+use Rattle.protocol.specs.Buffer.{over, Put, Emits}
+use Rattle.protocol.proofs.TestLaws.{eqb-same}
+use Rattle.protocol.proofs.ListLaws.{init-last, sum-snoc, bytes-left, bytes-drop}
+use Rattle.protocol.proofs.FrameLaws.{double-snoc, bytes-undouble, double-undouble, parts, isShort, isSummed, judge-by, judgeWhole-by, isOpened, opened, readFrame-by, readFrame-only, readFrame-refused, Written}
+use Rattle.protocol.proofs.BufferLaws.{put-nil, puts, length-put, over-put, over-nil}
+use Rattle.frame.specs.declared.read.Tally.{Tally}
+use Rattle.frame.specs.declared.read.Scan.{Scan}
+use Rattle.frame.specs.declared.read.Scan.the-variants.{Whole, Broken}
+use Rattle.frame.specs.declared.read.Checked.{Checked}
+use Rattle.frame.specs.Read.{Tallies, ScanOf, failed, passed, judged, contentFrom, Checks}
+
+-- One content byte more, of a list that begins with it.
+content-step : (n b : ℕ) (l : List ℕ) → l ≡ b ∷ drop 1 l → contentFrom (suc n) l ≡ b ∷ contentFrom n (drop (length (doubled b)) l)
+unfolding contentFrom
+content-step n b l e =
+    ap (contentFrom (suc n)) e ∙ ap (λ m. b ∷ contentFrom n (drop (length (doubled b)) m)) (sym e)
+
+content-none : (n : ℕ) → contentFrom n [] ≡ []
+unfolding contentFrom
+content-none zero = refl
+content-none (suc n) = refl
+
+content-zero : (l : List ℕ) → contentFrom 0 l ≡ []
+unfolding contentFrom
+content-zero l = refl
+
+-- Doubled bytes give their content back.
+doubled-head : (b : ℕ) (x : List ℕ) → doubled b ++ x ≡ b ∷ drop 1 (doubled b ++ x)
+doubled-head b x = go (eqb b DLE) refl
+  where
+    go : (t : Bool) → eqb b DLE ≡ t
+      → cond t (DLE ∷ DLE ∷ []) (b ∷ []) ++ x ≡ b ∷ drop 1 (cond t (DLE ∷ DLE ∷ []) (b ∷ []) ++ x)
+    go true e = ap (λ a. a ∷ DLE ∷ x) (sym (eqb-true b DLE e))
+    go false e = refl
+
+pub content-double : (d rest : List ℕ) → contentFrom (length d) (double d ++ rest) ≡ d
+unfolding double
+content-double [] rest = content-zero rest
+content-double (b ∷ d) rest =
+    ap (contentFrom (suc (length d))) (append-assoc (doubled b) (double d) rest)
+    ∙ content-step (length d) b (doubled b ++ (double d ++ rest)) (doubled-head b (double d ++ rest))
+    ∙ ap (λ l. b ∷ contentFrom (length d) l) (drop-append-seam (doubled b) (double d ++ rest))
+    ∙ ap (λ l. b ∷ l) (content-double d rest)
+
+-- Where the data of a frame stands.
+frame-data : (a : ℕ) (d : List ℕ)
+  → drop (2 + length (doubled a)) (frame a d) ≡ double d ++ (doubled (checksum (a ∷ d)) ++ DLE ∷ ETX ∷ [])
+unfolding frame wrap contentOf double
+frame-data a d =
+    let k : ℕ = checksum (a ∷ d) in
+    let n : 2 + length (doubled a) ≡ suc (suc (length (doubled a))) = omega arith in
+    ap (λ m. drop m (frame a d)) n
+    ∙ ap (drop (length (doubled a))) (append-assoc (doubled a) (double (d ++ k ∷ [])) (DLE ∷ ETX ∷ []))
+    ∙ drop-append-seam (doubled a) (double (d ++ k ∷ []) ++ DLE ∷ ETX ∷ [])
+    ∙ ap (λ l. l ++ DLE ∷ ETX ∷ []) (double-snoc d k)
+    ∙ append-assoc (double d) (doubled k) (DLE ∷ ETX ∷ [])
+
+frame-content : (a : ℕ) (d : List ℕ) → contentFrom (length d) (drop (2 + length (doubled a)) (frame a d)) ≡ d
+frame-content a d =
+    ap (contentFrom (length d)) (frame-data a d) ∙ content-double d (doubled (checksum (a ∷ d)) ++ DLE ∷ ETX ∷ [])
+
+-- Copying, at a place of the string and of the output.
+pub record Copying (s : List ℕ) (from n : ℕ) (old out : List ℕ) (i k : ℕ) : Type 0 where
+  pub bytes : List ℕ
+  pub rest : contentFrom n (drop from s) ≡ bytes ++ contentFrom (n - k) (drop i s)
+  pub put : Put 0 bytes old k out
+  pub within : k ≤ n
+
+module _ (s : List ℕ) (from n : ℕ) (old : List ℕ) (room : n ≤ length old) where
+  pub copy-begins : Copying s from n old old from 0
+  copy-begins =
+      record {
+        bytes = [];
+        rest = ap (λ m. contentFrom m (drop from s)) (sym (sub-zero n));
+        put = put-nil 0 old;
+        within = omega arith
+      }
+
+  pub copy-more : {out out′ : List ℕ} {i k k′ w : ℕ} → Copying s from n old out i k → k < n → i < length s
+    → Put k (getD s i 0 ∷ []) out k′ out′ → w ≡ length (doubled (getD s i 0)) → Copying s from n old out′ (i + w) k′
+  copy-more {i = i} {k = k} {k′ = k′} {w = w} c h l p e =
+      let b : ℕ = getD s i 0 in
+      let first : drop i s ≡ b ∷ drop (suc i) s = drop-cons s i 0 l in
+      let left : n - k ≡ suc (n - k′) = omega (arith, p .next) in
+      record {
+        bytes = c .bytes ++ b ∷ [];
+        rest =
+          c .rest
+          ∙ ap (λ m. c .bytes ++ contentFrom m (drop i s)) left
+          ∙ ap (λ x. c .bytes ++ x)
+          (content-step (n - k′) b (drop i s) (first ∙ sym (ap (λ x. b ∷ drop 1 x) first))
+          ∙ ap (λ x. b ∷ contentFrom (n - k′) x)
+          (drop-drop (length (doubled b)) i s ∙ ap (λ m. drop (i + m) s) (sym e)))
+          ∙ sym (append-assoc (c .bytes) (b ∷ []) (contentFrom (n - k′) (drop (i + w) s)));
+        put = puts (omega arith) (c .put) p;
+        within = omega (arith, p .next)
+      }
+
+  pub copy-same : {out : List ℕ} {i k : ℕ} → Copying s from n old out i k → length out ≡ length old
+  copy-same {k = k} c =
+      ap length (c .put .bytes) ∙ length-put old 0 (c .bytes) (omega (arith, c .put .next, c .within, room))
+
+  pub copy-all : {out : List ℕ} {i k : ℕ} → Copying s from n old out i k → n ≤ k → Put 0 (contentFrom n (drop from s)) old k out
+  copy-all {out} {i} {k} c h =
+      let none-left : n - k ≡ 0 = omega arith in
+      let is : contentFrom n (drop from s) ≡ c .bytes =
+            c .rest
+            ∙ ap (λ m. c .bytes ++ contentFrom m (drop i s)) none-left
+            ∙ ap (λ l. c .bytes ++ l) (content-zero (drop i s))
+            ∙ append-nil (c .bytes) in
+      subst (λ l. Put 0 l old k out) (sym is) (c .put)
+
+  pub copy-short : {out : List ℕ} {i k : ℕ} → Copying s from n old out i k → length s ≤ i → Put 0 (contentFrom n (drop from s)) old k out
+  copy-short {out} {i} {k} c h =
+      let is : contentFrom n (drop from s) ≡ c .bytes =
+            c .rest
+            ∙ ap (λ l. c .bytes ++ contentFrom (n - k) l) (drop-of-length-le s h)
+            ∙ ap (λ l. c .bytes ++ l) (content-none (n - k))
+            ∙ append-nil (c .bytes) in
+      subst (λ l. Put 0 l old k out) (sym is) (c .put)
+
+-- Numbers that need no content.
+checks-refused : (a : ℕ) (s : List ℕ) (n : ℕ) → readFrame a s ≡ refused n → Checks a s (failed n)
+checks-refused a s n e =
+    record {
+      number = sym (ap (λ r. r .number) e);
+      len = sym (ap (λ r. length (r .payload)) e);
+      content = content-zero (drop 0 s) ∙ sym (ap (λ r. r .payload) e)
+    }
+
+and-false : (t : Bool) → (t && false) ≡ false
+and-false true = refl
+and-false false = refl
+
+checks-unopened : (a : ℕ) (s : List ℕ) → isOpened s ≡ false → Checks a s (failed noPreamble)
+checks-unopened a s h = checks-refused a s noPreamble (readFrame-by a s false h)
+
+pub checks-one : (a : ℕ) (s : List ℕ) → length s < 2 → Checks a s (failed noPreamble)
+checks-one a [] h = checks-unopened a [] refl
+checks-one a (x ∷ []) h = checks-unopened a (x ∷ []) (and-false (eqb x DLE))
+checks-one a (x ∷ y ∷ s) h = absurd (omega (arith, h))
+
+pub checks-first : (a : ℕ) (s : List ℕ) → (getD s 0 0 ≡ DLE → ⊥) → Checks a s (failed noPreamble)
+checks-first a s h = checks-unopened a s (ap (λ t. t && eqb (getD s 1 0) STX) (ne-eqb (getD s 0 0) DLE h))
+
+pub checks-second : (a : ℕ) (s : List ℕ) → (getD s 1 0 ≡ STX → ⊥) → Checks a s (failed noPreamble)
+checks-second a s h =
+    checks-unopened a s
+    (ap (λ t. eqb (getD s 0 0) DLE && t) (ne-eqb (getD s 1 0) STX h) ∙ and-false (eqb (getD s 0 0) DLE))
+
+pub both-open : (s : List ℕ) → getD s 0 0 ≡ DLE → getD s 1 0 ≡ STX → isOpened s ≡ true
+both-open s p q = ap₂ _&&_ (eq-eqb (getD s 0 0) DLE p) (eq-eqb (getD s 1 0) STX q)
+
+pub checks-broken : (a : ℕ) (s : List ℕ) → isOpened s ≡ true → ScanOf (undouble false (drop 2 s)) Broken → Checks a s (failed badPair)
+unfolding judgeWhole
+checks-broken a s h = go (undouble false (drop 2 s)) refl
+  where
+    go : (o : Option (List ℕ)) → undouble false (drop 2 s) ≡ o → ScanOf o Broken → Checks a s (failed badPair)
+    go none e w = checks-refused a s badPair (readFrame-by a s true h ∙ ap (judgeWhole a) e)
+    go (some c) e w = absurd w
+
+-- The checksum is right exactly where all bytes of the content sum up to 255.
+summed-same : (c : List ℕ) → 1 ≤ length c → checksumIn c < byteEnd → isSummed c ≡ eqb (sum c % 2 ^ 8) 255
+unfolding checksum
+summed-same c h k =
+    let front : List ℕ = take (length c - 1) c in
+    let total : sum c ≡ sum front + checksumIn c = ap sum (init-last c h) ∙ sum-snoc front (checksumIn c) in
+    eqb-same (checksumIn c) (255 - sum front % 2 ^ 8) (sum c % 2 ^ 8) 255
+    (λ e. omega (arith, e, total))
+    (λ e. omega (arith, e, total, k))
+
+judged-by : (a : ℕ) (t : Tally) (p q u v : Bool) → ltb (t .count) 3 ≡ p → ltb maxContent (t .count) ≡ q → eqb (t .sum) 255 ≡ u
+  → eqb (t .first) a ≡ v
+  → judged a t
+  ≡ cond p (failed tooShort) (cond q (failed tooLong) (cond u (cond v (passed a (t .count)) (failed otherAddress)) (failed badChecksum)))
+unfolding judged
+judged-by a t p q u v e f g h = rw (e, f, g, h)
+
+-- A string whose content passes every test: its data stands where `passed` says.
+checks-passed : (a : ℕ) (s c : List ℕ) → readFrame a s ≡ received (dataIn c) → 3 ≤ length c → Checks a s (passed a (length c))
+checks-passed a s c e h =
+    let payload : readFrame a s .payload ≡ dataIn c = ap (λ r. r .payload) e in
+    let size : length (dataIn c) ≡ length c - 2 =
+          omega (arith, ap length (parts c (omega arith)), length-append (dataIn c) (checksumIn c ∷ [])) in
+    let written : s ≡ frame a (dataIn c) =
+          readFrame-only a s (ap (λ r. r .number) e) .written ∙ ap (frame a) payload in
+    record {
+      number = sym (ap (λ r. r .number) e);
+      len = sym (ap length payload ∙ size);
+      content =
+        ap₂ (λ n l. contentFrom n (drop (2 + length (doubled a)) l)) (sym size) written
+        ∙ frame-content a (dataIn c)
+        ∙ sym payload
+    }
+
+module _ (a : ℕ) (s c : List ℕ) (t : Tally) (open? : isOpened s ≡ true) (is : undouble false (drop 2 s) ≡ some c)
+  (w : Tallies c t) (all : Bytes s) where
+  reads : readFrame a s ≡ judgeWhole a (some c)
+  reads = readFrame-by a s true open? ∙ ap (judgeWhole a) is
+
+  content-bytes : Bytes c
+  content-bytes =
+      bytes-undouble c
+      (bytes-left (double c) (DLE ∷ ETX ∷ [])
+      (subst Bytes (double-undouble (drop 2 s) false c is) (bytes-drop 2 s all)))
+
+  summed? : 3 ≤ length c → (u : Bool) → eqb (t .sum) 255 ≡ u → isSummed c ≡ u
+  summed? h u e =
+      summed-same c (omega arith) (content-bytes (length c - 1)) ∙ ap (λ n. eqb n 255) (sym (w .total)) ∙ e
+
+  judge-content : 3 ≤ length c → length c ≤ maxContent → (u v : Bool) → eqb (t .sum) 255 ≡ u → eqb (t .first) a ≡ v
+    → readFrame a s ≡ cond u (cond v (received (dataIn c)) (refused otherAddress)) (refused badChecksum)
+  judge-content h k u v g f =
+      reads
+      ∙ judgeWhole-by a c false (le-ltb maxContent (length c) k)
+      ∙ judge-by a c false u v (le-ltb (length c) 3 h) (summed? h u g) (ap (λ n. eqb n a) (sym (w .first)) ∙ f)
+
+  least : ltb (t .count) 3 ≡ false → 3 ≤ length c
+  least e = omega (arith, ltb-false (t .count) 3 e, w .count)
+
+  most : ltb maxContent (t .count) ≡ false → length c ≤ maxContent
+  most f = omega (arith, ltb-false maxContent (t .count) f, w .count)
+
+  checks-tally : Checks a s (judged a t)
+  checks-tally = go (ltb (t .count) 3) refl (ltb maxContent (t .count)) refl (eqb (t .sum) 255) refl (eqb (t .first) a) refl
+    where
+      go : (p : Bool) → ltb (t .count) 3 ≡ p → (q : Bool) → ltb maxContent (t .count) ≡ q → (u : Bool) → eqb (t .sum) 255 ≡ u
+        → (v : Bool) → eqb (t .first) a ≡ v → Checks a s (judged a t)
+      go true e q f u g v h =
+          let short : length c < 3 = omega (arith, ltb-true (t .count) 3 e, w .count) in
+          rw (judged-by a t true q u v e f g h)
+          (checks-refused a s tooShort
+          (reads
+          ∙ judgeWhole-by a c false (le-ltb maxContent (length c) (omega arith))
+          ∙ judge-by a c true (isSummed c) (eqb (addressIn c) a) (lt-ltb (length c) 3 short) refl refl))
+      go false e true f u g v h =
+          let long : maxContent < length c = omega (arith, ltb-true maxContent (t .count) f, w .count) in
+          rw (judged-by a t false true u v e f g h)
+          (checks-refused a s tooLong (reads ∙ judgeWhole-by a c true (lt-ltb maxContent (length c) long)))
+      go false e false f false g v h =
+          rw (judged-by a t false false false v e f g h)
+          (checks-refused a s badChecksum (judge-content (least e) (most f) false v g h))
+      go false e false f true g false h =
+          rw (judged-by a t false false true false e f g h)
+          (checks-refused a s otherAddress (judge-content (least e) (most f) true false g h))
+      go false e false f true g true h =
+          rw (judged-by a t false false true true e f g h)
+          (subst (λ n. Checks a s (passed a n)) (sym (w .count))
+          (checks-passed a s c (judge-content (least e) (most f) true true g h) (least e)))
+
+-- What a pass over an opened string finds decides what is known of it.
+pub checks-whole : (a : ℕ) (s : List ℕ) (t : Tally) → isOpened s ≡ true → Bytes s → ScanOf (undouble false (drop 2 s)) (Whole t)
+  → {r : Checked} → r ≡ judged a t → Checks a s r
+checks-whole a s t h all w {r} e = subst (Checks a s) (sym e) (go (undouble false (drop 2 s)) refl w)
+  where
+    go : (o : Option (List ℕ)) → undouble false (drop 2 s) ≡ o → ScanOf o (Whole t) → Checks a s (judged a t)
+    go none is w = absurd w
+    go (some c) is w = checks-tally a s c t h is w all
+
+-- What `read_frame` emits: nothing on a refusal, and the data that was copied.
+pub emits-refusal : (a : ℕ) (s old : List ℕ) {r : Checked} → Checks a s r → (r .number ≡ done → ⊥)
+  → Emits (readFrame a s) old (r .number) 0 old
+emits-refusal a s old c h =
+    let nothing : readFrame a s .payload ≡ [] = readFrame-refused a s (λ e. h (c .number ∙ e)) in
+    record {
+      number = c .number;
+      len = sym (ap length nothing);
+      bytes = sym (ap (λ l. over l old) nothing ∙ over-nil old)
+    }
+
+pub emits-data : (a : ℕ) (s : List ℕ) {r : Checked} {old new : List ℕ} {size : ℕ} → Checks a s r → r .number ≡ done
+  → Put 0 (contentFrom (r .len) (drop (r .start) s)) old size new → Emits (readFrame a s) old done size new
+emits-data a s {r} {old} {new} {size} c h p =
+    let q : Put 0 (readFrame a s .payload) old size new = subst (λ l. Put 0 l old size new) (c .content) p in
+    record {
+      number = sym h ∙ c .number;
+      len = omega (arith, q .next);
+      bytes = q .bytes ∙ over-put (readFrame a s .payload) old
+    }
+
+pub data-short : (a : ℕ) (s : List ℕ) {r : Checked} → Checks a s r → r .number ≡ done → r .len ≤ maxData
+data-short a s c h = omega (arith, c .len, readFrame-only a s (sym (c .number) ∙ h) .size .most)
