@@ -45,7 +45,7 @@ doubled-head : (b : ℕ) (x : List ℕ) → doubled b ++ x ≡ b ∷ drop 1 (dou
 doubled-head b x = go (eqb b DLE) refl
   where
     go : (t : Bool) → eqb b DLE ≡ t
-      → cond t (DLE ∷ DLE ∷ []) (b ∷ []) ++ x ≡ b ∷ drop 1 (cond t (DLE ∷ DLE ∷ []) (b ∷ []) ++ x)
+        → cond t (DLE ∷ DLE ∷ []) (b ∷ []) ++ x ≡ b ∷ drop 1 (cond t (DLE ∷ DLE ∷ []) (b ∷ []) ++ x)
     go true e = ap (λ a. a ∷ DLE ∷ x) (sym (eqb-true b DLE e))
     go false e = refl
 
@@ -60,7 +60,7 @@ content-double (b ∷ d) rest =
 
 -- Where the data of a frame stands.
 frame-data : (a : ℕ) (d : List ℕ)
-  → drop (2 + length (doubled a)) (frame a d) ≡ double d ++ (doubled (checksum (a ∷ d)) ++ DLE ∷ ETX ∷ [])
+    → drop (2 + length (doubled a)) (frame a d) ≡ double d ++ (doubled (checksum (a ∷ d)) ++ DLE ∷ ETX ∷ [])
 unfolding frame wrap contentOf double
 frame-data a d =
     let k : ℕ = checksum (a ∷ d) in
@@ -89,11 +89,11 @@ module _ (s : List ℕ) (from n : ℕ) (old : List ℕ) (room : n ≤ length old
         bytes = [];
         rest = ap (λ m. contentFrom m (drop from s)) (sym (sub-zero n));
         put = put-nil 0 old;
-        within = omega arith
+        within = omega arith;
       }
 
   pub copy-more : {out out′ : List ℕ} {i k k′ w : ℕ} → Copying s from n old out i k → k < n → i < length s
-    → Put k (getD s i 0 ∷ []) out k′ out′ → w ≡ length (doubled (getD s i 0)) → Copying s from n old out′ (i + w) k′
+      → Put k (getD s i 0 ∷ []) out k′ out′ → w ≡ length (doubled (getD s i 0)) → Copying s from n old out′ (i + w) k′
   copy-more {i = i} {k = k} {k′ = k′} {w = w} c h l p e =
       let b : ℕ = getD s i 0 in
       let first : drop i s ≡ b ∷ drop (suc i) s = drop-cons s i 0 l in
@@ -101,15 +101,15 @@ module _ (s : List ℕ) (from n : ℕ) (old : List ℕ) (room : n ≤ length old
       record {
         bytes = c .bytes ++ b ∷ [];
         rest =
-          c .rest
-          ∙ ap (λ m. c .bytes ++ contentFrom m (drop i s)) left
-          ∙ ap (λ x. c .bytes ++ x)
-          (content-step (n - k′) b (drop i s) (first ∙ sym (ap (λ x. b ∷ drop 1 x) first))
-          ∙ ap (λ x. b ∷ contentFrom (n - k′) x)
-          (drop-drop (length (doubled b)) i s ∙ ap (λ m. drop (i + m) s) (sym e)))
-          ∙ sym (append-assoc (c .bytes) (b ∷ []) (contentFrom (n - k′) (drop (i + w) s)));
+            c .rest
+            ∙ ap (λ m. c .bytes ++ contentFrom m (drop i s)) left
+            ∙ ap (λ x. c .bytes ++ x)
+            (content-step (n - k′) b (drop i s) (first ∙ sym (ap (λ x. b ∷ drop 1 x) first))
+            ∙ ap (λ x. b ∷ contentFrom (n - k′) x)
+            (drop-drop (length (doubled b)) i s ∙ ap (λ m. drop (i + m) s) (sym e)))
+            ∙ sym (append-assoc (c .bytes) (b ∷ []) (contentFrom (n - k′) (drop (i + w) s)));
         put = puts (omega arith) (c .put) p;
-        within = omega (arith, p .next)
+        within = omega (arith, p .next);
       }
 
   pub copy-same : {out : List ℕ} {i k : ℕ} → Copying s from n old out i k → length out ≡ length old
@@ -120,19 +120,19 @@ module _ (s : List ℕ) (from n : ℕ) (old : List ℕ) (room : n ≤ length old
   copy-all {out} {i} {k} c h =
       let none-left : n - k ≡ 0 = omega arith in
       let is : contentFrom n (drop from s) ≡ c .bytes =
-            c .rest
-            ∙ ap (λ m. c .bytes ++ contentFrom m (drop i s)) none-left
-            ∙ ap (λ l. c .bytes ++ l) (content-zero (drop i s))
-            ∙ append-nil (c .bytes) in
+      c .rest
+      ∙ ap (λ m. c .bytes ++ contentFrom m (drop i s)) none-left
+      ∙ ap (λ l. c .bytes ++ l) (content-zero (drop i s))
+      ∙ append-nil (c .bytes) in
       subst (λ l. Put 0 l old k out) (sym is) (c .put)
 
   pub copy-short : {out : List ℕ} {i k : ℕ} → Copying s from n old out i k → length s ≤ i → Put 0 (contentFrom n (drop from s)) old k out
   copy-short {out} {i} {k} c h =
       let is : contentFrom n (drop from s) ≡ c .bytes =
-            c .rest
-            ∙ ap (λ l. c .bytes ++ contentFrom (n - k) l) (drop-of-length-le s h)
-            ∙ ap (λ l. c .bytes ++ l) (content-none (n - k))
-            ∙ append-nil (c .bytes) in
+      c .rest
+      ∙ ap (λ l. c .bytes ++ contentFrom (n - k) l) (drop-of-length-le s h)
+      ∙ ap (λ l. c .bytes ++ l) (content-none (n - k))
+      ∙ append-nil (c .bytes) in
       subst (λ l. Put 0 l old k out) (sym is) (c .put)
 
 -- Numbers that need no content.
@@ -141,7 +141,7 @@ checks-refused a s n e =
     record {
       number = sym (ap (λ r. r .number) e);
       len = sym (ap (λ r. length (r .payload)) e);
-      content = content-zero (drop 0 s) ∙ sym (ap (λ r. r .payload) e)
+      content = content-zero (drop 0 s) ∙ sym (ap (λ r. r .payload) e);
     }
 
 and-false : (t : Bool) → (t && false) ≡ false
@@ -186,9 +186,9 @@ summed-same c h k =
     (λ e. omega (arith, e, total, k))
 
 judged-by : (a : ℕ) (t : Tally) (p q u v : Bool) → ltb (t .count) 3 ≡ p → ltb maxContent (t .count) ≡ q → eqb (t .sum) 255 ≡ u
-  → eqb (t .first) a ≡ v
-  → judged a t
-  ≡ cond p (failed tooShort) (cond q (failed tooLong) (cond u (cond v (passed a (t .count)) (failed otherAddress)) (failed badChecksum)))
+    → eqb (t .first) a ≡ v
+    → judged a t
+    ≡ cond p (failed tooShort) (cond q (failed tooLong) (cond u (cond v (passed a (t .count)) (failed otherAddress)) (failed badChecksum)))
 unfolding judged
 judged-by a t p q u v e f g h = rw (e, f, g, h)
 
@@ -197,20 +197,20 @@ checks-passed : (a : ℕ) (s c : List ℕ) → readFrame a s ≡ received (dataI
 checks-passed a s c e h =
     let payload : readFrame a s .payload ≡ dataIn c = ap (λ r. r .payload) e in
     let size : length (dataIn c) ≡ length c - 2 =
-          omega (arith, ap length (parts c (omega arith)), length-append (dataIn c) (checksumIn c ∷ [])) in
+    omega (arith, ap length (parts c (omega arith)), length-append (dataIn c) (checksumIn c ∷ [])) in
     let written : s ≡ frame a (dataIn c) =
-          readFrame-only a s (ap (λ r. r .number) e) .written ∙ ap (frame a) payload in
+    readFrame-only a s (ap (λ r. r .number) e) .written ∙ ap (frame a) payload in
     record {
       number = sym (ap (λ r. r .number) e);
       len = sym (ap length payload ∙ size);
       content =
-        ap₂ (λ n l. contentFrom n (drop (2 + length (doubled a)) l)) (sym size) written
-        ∙ frame-content a (dataIn c)
-        ∙ sym payload
+          ap₂ (λ n l. contentFrom n (drop (2 + length (doubled a)) l)) (sym size) written
+          ∙ frame-content a (dataIn c)
+          ∙ sym payload;
     }
 
 module _ (a : ℕ) (s c : List ℕ) (t : Tally) (open? : isOpened s ≡ true) (is : undouble false (drop 2 s) ≡ some c)
-  (w : Tallies c t) (all : Bytes s) where
+    (w : Tallies c t) (all : Bytes s) where
   reads : readFrame a s ≡ judgeWhole a (some c)
   reads = readFrame-by a s true open? ∙ ap (judgeWhole a) is
 
@@ -225,7 +225,7 @@ module _ (a : ℕ) (s c : List ℕ) (t : Tally) (open? : isOpened s ≡ true) (i
       summed-same c (omega arith) (content-bytes (length c - 1)) ∙ ap (λ n. eqb n 255) (sym (w .total)) ∙ e
 
   judge-content : 3 ≤ length c → length c ≤ maxContent → (u v : Bool) → eqb (t .sum) 255 ≡ u → eqb (t .first) a ≡ v
-    → readFrame a s ≡ cond u (cond v (received (dataIn c)) (refused otherAddress)) (refused badChecksum)
+      → readFrame a s ≡ cond u (cond v (received (dataIn c)) (refused otherAddress)) (refused badChecksum)
   judge-content h k u v g f =
       reads
       ∙ judgeWhole-by a c false (le-ltb maxContent (length c) k)
@@ -241,7 +241,7 @@ module _ (a : ℕ) (s c : List ℕ) (t : Tally) (open? : isOpened s ≡ true) (i
   checks-tally = go (ltb (t .count) 3) refl (ltb maxContent (t .count)) refl (eqb (t .sum) 255) refl (eqb (t .first) a) refl
     where
       go : (p : Bool) → ltb (t .count) 3 ≡ p → (q : Bool) → ltb maxContent (t .count) ≡ q → (u : Bool) → eqb (t .sum) 255 ≡ u
-        → (v : Bool) → eqb (t .first) a ≡ v → Checks a s (judged a t)
+          → (v : Bool) → eqb (t .first) a ≡ v → Checks a s (judged a t)
       go true e q f u g v h =
           let short : length c < 3 = omega (arith, ltb-true (t .count) 3 e, w .count) in
           rw (judged-by a t true q u v e f g h)
@@ -266,7 +266,7 @@ module _ (a : ℕ) (s c : List ℕ) (t : Tally) (open? : isOpened s ≡ true) (i
 
 -- What a pass over an opened string finds decides what is known of it.
 pub checks-whole : (a : ℕ) (s : List ℕ) (t : Tally) → isOpened s ≡ true → Bytes s → ScanOf (undouble false (drop 2 s)) (Whole t)
-  → {r : Checked} → r ≡ judged a t → Checks a s r
+    → {r : Checked} → r ≡ judged a t → Checks a s r
 checks-whole a s t h all w {r} e = subst (Checks a s) (sym e) (go (undouble false (drop 2 s)) refl w)
   where
     go : (o : Option (List ℕ)) → undouble false (drop 2 s) ≡ o → ScanOf o (Whole t) → Checks a s (judged a t)
@@ -275,23 +275,23 @@ checks-whole a s t h all w {r} e = subst (Checks a s) (sym e) (go (undouble fals
 
 -- What `read_frame` emits: nothing on a refusal, and the data that was copied.
 pub emits-refusal : (a : ℕ) (s old : List ℕ) {r : Checked} → Checks a s r → (r .number ≡ done → ⊥)
-  → Emits (readFrame a s) old (r .number) 0 old
+    → Emits (readFrame a s) old (r .number) 0 old
 emits-refusal a s old c h =
     let nothing : readFrame a s .payload ≡ [] = readFrame-refused a s (λ e. h (c .number ∙ e)) in
     record {
       number = c .number;
       len = sym (ap length nothing);
-      bytes = sym (ap (λ l. over l old) nothing ∙ over-nil old)
+      bytes = sym (ap (λ l. over l old) nothing ∙ over-nil old);
     }
 
 pub emits-data : (a : ℕ) (s : List ℕ) {r : Checked} {old new : List ℕ} {size : ℕ} → Checks a s r → r .number ≡ done
-  → Put 0 (contentFrom (r .len) (drop (r .start) s)) old size new → Emits (readFrame a s) old done size new
+    → Put 0 (contentFrom (r .len) (drop (r .start) s)) old size new → Emits (readFrame a s) old done size new
 emits-data a s {r} {old} {new} {size} c h p =
     let q : Put 0 (readFrame a s .payload) old size new = subst (λ l. Put 0 l old size new) (c .content) p in
     record {
       number = sym h ∙ c .number;
       len = omega (arith, q .next);
-      bytes = q .bytes ∙ over-put (readFrame a s .payload) old
+      bytes = q .bytes ∙ over-put (readFrame a s .payload) old;
     }
 
 pub data-short : (a : ℕ) (s : List ℕ) {r : Checked} → Checks a s r → r .number ≡ done → r .len ≤ maxData

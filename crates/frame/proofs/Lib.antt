@@ -3,3 +3,4 @@ pub mod BodyLaws
 pub mod WriteLaws
 pub mod ReadLaws
 pub mod CheckLaws
+pub mod UdpLaws

@@ -3,6 +3,7 @@ mod buffer;
 mod checksum;
 pub mod read;
 mod size;
+pub mod udp;
 pub mod write;
 
 // What a call that writes into a lent output returns: a number of document 01, and the length of what it wrote.

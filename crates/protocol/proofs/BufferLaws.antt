@@ -5,10 +5,11 @@ use native.Mathlib.Omega.{arith}
 use native.Mathlib.Nat.{zero-add, add-zero, add-assoc}
 use native.Mathlib.Numerals.{add-one}
 use mathlib.Core.Path.{_≡_, refl, sym, ap, ap₂, subst, _∙_}
-use mathlib.Core.List.{List, [], _∷_, _++_, append-assoc}
+use mathlib.Core.List.{List, [], _∷_, _++_, append-assoc, append-nil}
+use borrow.Rule.Slice.PartMut.{putMid}
 use borrow.Author.Tests.{lt-ltb, le-ltb, eq-eqb, ne-eqb}
-use lib.ListN.{length, take, drop, set, take-append-drop, length-append, length-take, length-drop}
-use lib.Seq.{set-split, length-take-le, take-at, drop-at, drop-drop, drop-append-add}
+use lib.ListN.{length, take, drop, set, take-append-drop, drop-of-length-le, length-append, length-take, length-drop}
+use lib.Seq.{take-all, set-split, length-take-le, take-at, drop-at, drop-drop, drop-append-add}
 use Rattle.protocol.specs.Buffer.{putAt, over, Put, Emits}
 use Rattle.protocol.specs.Numbers.{done, noRoom}
 use Rattle.protocol.specs.Frame.{Received, received, refused, sizeNumber, ifSized, ifRoom}
@@ -110,3 +111,12 @@ pub emits-sized : (bs : List ℕ) {w : Received} {old new : List ℕ} {n size : 
     → Emits (ifSized bs w) old n size new
 unfolding ifSized
 emits-sized bs h e = rw (eq-eqb (sizeNumber (length bs)) done h) e
+
+-- A part of a buffer that starts in its middle and goes to its end: as it is lent, and as it comes back.
+pub part-lent : (a : ℕ) (xs : List ℕ) → take (length xs - a) (drop a xs) ≡ drop a xs
+part-lent a xs = take-all (length xs - a) (drop a xs) (omega (arith, length-drop a xs))
+
+pub part-back : (a : ℕ) (xs ys : List ℕ) → a ≤ length xs → putMid a (length xs - a) xs ys ≡ take a xs ++ ys
+part-back a xs ys h =
+    ap (λ l. take a xs ++ (ys ++ l)) (drop-of-length-le (drop a xs) {i = length xs - a} (omega (arith, length-drop a xs)))
+    ∙ ap (λ l. take a xs ++ l) (append-nil ys)

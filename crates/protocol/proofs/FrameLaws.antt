@@ -392,7 +392,7 @@ zeros (a ∷ b ∷ c ∷ d ∷ bs) h =
     λ k. eqb-true _ 0 (every-at (λ x. eqb x 0) (a ∷ b ∷ c ∷ d ∷ []) 0 all refl k) in
     cc (zero-at 0, zero-at 1, zero-at 2, zero-at 3)
 
-readDatagram-by : (s : List ℕ) (t : Bool) → fourZeros s ≡ t → readDatagram s ≡ cond t (ifSized (drop 4 s) (received (drop 4 s))) (refused noPreamble)
+pub readDatagram-by : (s : List ℕ) (t : Bool) → fourZeros s ≡ t → readDatagram s ≡ cond t (ifSized (drop 4 s) (received (drop 4 s))) (refused noPreamble)
 unfolding readDatagram
 readDatagram-by s t e = rw e
 

@@ -21,7 +21,7 @@ open-two c =
 
 -- src/read.rt:168:9
 returns : tie.Need-returns
-returns c = 
+returns c =
     let start = c .before .before in
     checks-one (start .args .address) (start .args .s .now) (c .if1 .taken)
 
@@ -31,7 +31,7 @@ shared-slice-read-if2 c = search needs
 
 -- src/read.rt:171:9
 returns-2 : tie.Need-returns-2
-returns-2 c = 
+returns-2 c =
     let start = c .before .before .before .before in
     checks-first (start .args .address) (start .args .s .now) (c .if2 .taken)
 
@@ -41,7 +41,7 @@ shared-slice-read-if3 c = search needs
 
 -- src/read.rt:174:9
 returns-3 : tie.Need-returns-3
-returns-3 c = 
+returns-3 c =
     let start = c .before .before .before .before .before .before in
     checks-second (start .args .address) (start .args .s .now) (c .if3 .taken)
 
@@ -63,7 +63,7 @@ enum-told c = search needs
 
 -- src/read.rt:159:1
 returns-4 : tie.Need-returns-4
-returns-4 c = 
+returns-4 c =
     let told = c .before .before in
     let scan = told .before .before in
     let else3 = scan .before in
@@ -77,7 +77,7 @@ returns-4 c =
 
 -- src/read.rt:159:1
 returns-5 : tie.Need-returns-5
-returns-5 c = 
+returns-5 c =
     let scan = c .before .before in
     let else3 = scan .before in
     let start = else3 .before .before .before .before .before .before in

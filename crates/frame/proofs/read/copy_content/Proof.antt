@@ -26,7 +26,7 @@ same-at c =
 
 -- src/read.rt:194:5
 loop-holds : tie.Need-loop-holds Inv-loop μ-loop
-loop-holds c = 
+loop-holds c =
     let start = c .before .before in
     copy-begins (start .args .s .now) (start .args .from) (start .args .n) (start .args .out .now) (start .pre)
 
@@ -36,7 +36,7 @@ same-length c = same-at (c .before .before)
 
 -- src/read.rt:196:13
 returns : tie.Need-returns Inv-loop μ-loop
-returns c = 
+returns c =
     let at-loop = c .before .before in
     let start = at-loop .before .before .before in
     copy-short (start .args .s .now) (start .args .from) (start .args .n) (start .args .out .now) (start .pre) (at-loop .loop .inv) (c .if1 .taken)
@@ -47,7 +47,7 @@ shared-slice-read-b c = omega arith
 
 -- src/read.rt:199:9
 put-requires : tie.Need-put-requires Inv-loop μ-loop
-put-requires c κs = 
+put-requires c κs =
     let at-loop = c .before .before .before .before in
     omega (arith, same-at at-loop, at-loop .before .before .before .pre, c .before .before .before .loop-test .taken)
 
@@ -57,26 +57,27 @@ width-requires c κs = search needs
 
 -- src/read.rt:200:9
 add-i : tie.Need-add-i Inv-loop μ-loop
-add-i c = 
+add-i c =
     let put = c .before .before .before in
     let else1 = put .before .before .before in
     let start = else1 .before .before .before .before .before in
-    omega
-    (arith,
-    c .width .ensures,
-    length-doubled (getD (start .args .s .now) (else1 .before .before .loop .i) 0),
-    else1 .if1 .left,
-    start .good .0 .1)
+    omega (
+      arith,
+      c .width .ensures,
+      length-doubled (getD (start .args .s .now) (else1 .before .before .loop .i) 0),
+      else1 .if1 .left,
+      start .good .0 .1,
+    )
 
 -- src/read.rt:194:5
 loop-less : tie.Need-loop-less Inv-loop μ-loop
-loop-less c = 
+loop-less c =
     let put = c .before .before .before in
     omega (arith, put .put .ensures .next, put .before .before .before .before .loop-test .taken)
 
 -- src/read.rt:194:5
 loop-again : tie.Need-loop-again Inv-loop μ-loop
-loop-again c = 
+loop-again c =
     let put = c .before .before .before in
     let else1 = put .before .before .before in
     let at-loop = else1 .before .before in
@@ -90,7 +91,7 @@ same-length-2 c = same-at (c .before)
 
 -- src/read.rt:188:1
 returns-2 : tie.Need-returns-2 Inv-loop μ-loop
-returns-2 c = 
+returns-2 c =
     let start = c .before .before .before .before in
     copy-all (start .args .s .now) (start .args .from) (start .args .n) (start .args .out .now) (start .pre) (c .before .loop .inv) (c .loop-test .left)
 

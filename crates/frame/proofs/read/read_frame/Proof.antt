@@ -20,7 +20,7 @@ check-frame-requires c κs = search needs
 
 -- src/read.rt:229:9
 returns-2 : tie.Need-returns-2
-returns-2 c = 
+returns-2 c =
     let checked = c .before in
     let start = checked .before .before .before .before in
     emits-in-room (checked .before .if1 .left)
@@ -28,13 +28,14 @@ returns-2 c =
 
 -- src/read.rt:233:9
 copy-content-requires : tie.Need-copy-content-requires
-copy-content-requires c κs = 
+copy-content-requires c κs =
     let checked = c .before .before in
     let start = checked .before .before .before .before in
-    omega
-    (arith,
-    data-short (start .args .address) (start .args .s .now) (checked .check-frame .ensures) (c .before .if2 .left),
-    checked .before .if1 .left)
+    omega (
+      arith,
+      data-short (start .args .address) (start .args .s .now) (checked .check-frame .ensures) (c .before .if2 .left),
+      checked .before .if1 .left,
+    )
 
 -- src/read.rt:217:1
 same-length : tie.Need-same-length
@@ -42,7 +43,7 @@ same-length c = search needs
 
 -- src/read.rt:217:1
 returns-3 : tie.Need-returns-3
-returns-3 c = 
+returns-3 c =
     let else2 = c .before .before .before .before in
     let checked = else2 .before in
     let start = checked .before .before .before .before in
