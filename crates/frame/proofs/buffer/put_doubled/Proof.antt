@@ -1,3 +1,4 @@
+-- `frame::buffer::put_doubled` meets its contract. Assumes nothing.
 use Prim.Native.Nat.{ℕ}
 use native.Mathlib.Omega.{arith}
 use mathlib.Core.Path.{_≡_, subst}
@@ -10,9 +11,6 @@ use Rattle.protocol.specs.Buffer.{Put}
 use Rattle.protocol.proofs.BufferLaws.{puts}
 use Rattle.frame.proofs.buffer.put_doubled.Statement.{statement}
 use Rattle.frame.proofs.buffer.put_doubled.Tie as tie
-use Rattle.frame.proofs.buffer.put_doubled.Reads as reads
-use Rattle.frame.proofs.buffer.put_doubled.Lts as lts
-use Rattle.frame.proofs.buffer.put.Reads as put-reads
 
 -- One byte, or two, as `doubled` has them.
 once : {at b r : ℕ} {old new : List ℕ} → (b ≡ DLE → ⊥) → Put at (b ∷ []) old r new → Put at (doubled b) old r new
@@ -21,19 +19,15 @@ once {b = b} h p = rw (ne-eqb b DLE h) p
 twice : {at b r : ℕ} {old new : List ℕ} → b ≡ DLE → Put at (b ∷ b ∷ []) old r new → Put at (doubled b) old r new
 twice {at} {b} {r} {old} {new} h p = rw (eq-eqb b DLE h) (subst (λ x. Put at (x ∷ x ∷ []) old r new) h p)
 
--- src/buffer.rt:24:9
 put-requires : tie.Need-put-requires
 put-requires c κs = search needs
 
--- src/buffer.rt:26:9
 put-requires-2 : tie.Need-put-requires-2
 put-requires-2 c κs = search needs
 
--- src/buffer.rt:26:9
 same-length : tie.Need-same-length
 same-length c = search needs
 
--- src/buffer.rt:26:9
 returns : tie.Need-returns
 returns c =
     let then = c .before .before .before .before in
@@ -42,11 +36,9 @@ returns c =
     twice (then .if1 .taken)
     (puts (omega (arith, start .pre)) (first .put .ensures) (c .before .before .put2 .ensures))
 
--- src/buffer.rt:20:1
 same-length-2 : tie.Need-same-length-2
 same-length-2 c = search needs
 
--- src/buffer.rt:20:1
 returns-2 : tie.Need-returns-2
 returns-2 c = once (c .if1 .left) (c .before .before .before .put .ensures)
 

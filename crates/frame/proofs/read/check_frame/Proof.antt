@@ -1,67 +1,54 @@
+-- `frame::read::check_frame` meets its contract. Assumes nothing.
 use native.Mathlib.Omega.{arith}
 use mathlib.Core.Path.{_≡_, subst}
 use mathlib.Core.Bool.{true, false}
+use borrow.Author.Needs.{needs}
 use lib.ListN.{drop}
 use Rattle.protocol.specs.Frame.{undouble}
 use Rattle.protocol.proofs.FrameLaws.{isOpened}
 use Rattle.frame.specs.Read.{ScanOf}
 use Rattle.frame.proofs.CheckLaws.{checks-one, checks-first, checks-second, both-open, checks-broken, checks-whole}
-use borrow.Author.Needs.{needs}
 use Rattle.frame.proofs.read.check_frame.Statement.{statement}
 use Rattle.frame.proofs.read.check_frame.Tie as tie
-use Rattle.frame.proofs.read.check_frame.Reads as reads
-use Rattle.frame.proofs.read.check_frame.Lts as lts
-use Rattle.frame.proofs.read.judge.Reads as judge-reads
-use Rattle.frame.proofs.read.scan_string.Reads as scan-string-reads
 
 -- Behind the third test the string begins with 10 02.
 open-two : (c : tie.Else3) → isOpened (c .before .before .before .before .before .before .args .s .now) ≡ true
 open-two c =
     both-open (c .before .before .before .before .before .before .args .s .now) (c .before .before .if2 .left) (c .if3 .left)
 
--- src/read.rt:168:9
 returns : tie.Need-returns
 returns c =
     let start = c .before .before in
     checks-one (start .args .address) (start .args .s .now) (c .if1 .taken)
 
--- src/read.rt:170:8
 shared-slice-read-if2 : tie.Need-shared-slice-read-if2
 shared-slice-read-if2 c = search needs
 
--- src/read.rt:171:9
 returns-2 : tie.Need-returns-2
 returns-2 c =
     let start = c .before .before .before .before in
     checks-first (start .args .address) (start .args .s .now) (c .if2 .taken)
 
--- src/read.rt:173:8
 shared-slice-read-if3 : tie.Need-shared-slice-read-if3
 shared-slice-read-if3 c = search needs
 
--- src/read.rt:174:9
 returns-3 : tie.Need-returns-3
 returns-3 c =
     let start = c .before .before .before .before .before .before in
     checks-second (start .args .address) (start .args .s .now) (c .if3 .taken)
 
--- src/read.rt:176:11
 scan-string-requires : tie.Need-scan-string-requires
 scan-string-requires c κs = search needs
 
--- src/read.rt:177:21
 enum-known-t : tie.Need-enum-known-t
 enum-known-t c = search needs
 
--- src/read.rt:177:27
 judge-requires : tie.Need-judge-requires
 judge-requires c κs = search needs
 
--- src/read.rt:178:25
 enum-told : tie.Need-enum-told
 enum-told c = search needs
 
--- src/read.rt:159:1
 returns-4 : tie.Need-returns-4
 returns-4 c =
     let told = c .before .before in
@@ -75,7 +62,6 @@ returns-4 c =
     (subst (ScanOf (undouble false (drop 2 (start .args .s .now)))) (told .t .given .1) (scan .scan-string .ensures))
     (c .judge .ensures)
 
--- src/read.rt:159:1
 returns-5 : tie.Need-returns-5
 returns-5 c =
     let scan = c .before .before in

@@ -1,16 +1,13 @@
+-- `frame::read::copy_content` meets its contract. Assumes nothing.
 use Prim.Native.Nat.{_-_}
 use native.Mathlib.Omega.{arith}
 use mathlib.Core.Path.{_≡_}
-use lib.ListN.{length, getD}
 use borrow.Author.Needs.{needs}
+use lib.ListN.{length, getD}
 use Rattle.protocol.proofs.FrameLaws.{length-doubled}
 use Rattle.frame.proofs.CheckLaws.{Copying, copy-begins, copy-more, copy-same, copy-all, copy-short}
 use Rattle.frame.proofs.read.copy_content.Statement.{statement}
 use Rattle.frame.proofs.read.copy_content.Tie as tie
-use Rattle.frame.proofs.read.copy_content.Reads as reads
-use Rattle.frame.proofs.read.copy_content.Lts as lts
-use Rattle.frame.proofs.buffer.put.Reads as put-reads
-use Rattle.frame.proofs.read.width.Reads as width-reads
 
 abbrev Inv-loop : tie.InvT-loop
 Inv-loop s from n out₀ i₀ k₀ out i k = Copying s from n out₀ out i k
@@ -24,38 +21,31 @@ same-at c =
     let start = c .before .before .before in
     copy-same (start .args .s .now) (start .args .from) (start .args .n) (start .args .out .now) (start .pre) (c .loop .inv)
 
--- src/read.rt:194:5
 loop-holds : tie.Need-loop-holds Inv-loop μ-loop
 loop-holds c =
     let start = c .before .before in
     copy-begins (start .args .s .now) (start .args .from) (start .args .n) (start .args .out .now) (start .pre)
 
--- src/read.rt:196:13
 same-length : tie.Need-same-length Inv-loop μ-loop
 same-length c = same-at (c .before .before)
 
--- src/read.rt:196:13
 returns : tie.Need-returns Inv-loop μ-loop
 returns c =
     let at-loop = c .before .before in
     let start = at-loop .before .before .before in
     copy-short (start .args .s .now) (start .args .from) (start .args .n) (start .args .out .now) (start .pre) (at-loop .loop .inv) (c .if1 .taken)
 
--- src/read.rt:198:17
 shared-slice-read-b : tie.Need-shared-slice-read-b Inv-loop μ-loop
 shared-slice-read-b c = omega arith
 
--- src/read.rt:199:9
 put-requires : tie.Need-put-requires Inv-loop μ-loop
 put-requires c κs =
     let at-loop = c .before .before .before .before in
     omega (arith, same-at at-loop, at-loop .before .before .before .pre, c .before .before .before .loop-test .taken)
 
--- src/read.rt:200:14
 width-requires : tie.Need-width-requires Inv-loop μ-loop
 width-requires c κs = search needs
 
--- src/read.rt:200:9
 add-i : tie.Need-add-i Inv-loop μ-loop
 add-i c =
     let put = c .before .before .before in
@@ -69,13 +59,11 @@ add-i c =
       start .good .0 .1,
     )
 
--- src/read.rt:194:5
 loop-less : tie.Need-loop-less Inv-loop μ-loop
 loop-less c =
     let put = c .before .before .before in
     omega (arith, put .put .ensures .next, put .before .before .before .before .loop-test .taken)
 
--- src/read.rt:194:5
 loop-again : tie.Need-loop-again Inv-loop μ-loop
 loop-again c =
     let put = c .before .before .before in
@@ -85,11 +73,9 @@ loop-again c =
     copy-more (start .args .s .now) (start .args .from) (start .args .n) (start .args .out .now) (start .pre)
     (at-loop .loop .inv) (else1 .before .loop-test .taken) (else1 .if1 .left) (put .put .ensures) (c .width .ensures)
 
--- src/read.rt:188:1
 same-length-2 : tie.Need-same-length-2 Inv-loop μ-loop
 same-length-2 c = same-at (c .before)
 
--- src/read.rt:188:1
 returns-2 : tie.Need-returns-2 Inv-loop μ-loop
 returns-2 c =
     let start = c .before .before .before .before in

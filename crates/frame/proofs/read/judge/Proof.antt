@@ -1,25 +1,20 @@
+-- `frame::read::judge` meets its contract. Assumes nothing.
 use native.Mathlib.Omega.{arith}
 use borrow.Author.Tests.{lt-ltb, le-ltb, eq-eqb, ne-eqb}
+use borrow.Author.Needs.{needs}
 use Rattle.protocol.proofs.FrameLaws.{length-doubled}
 use Rattle.frame.specs.Read.{judged}
-use borrow.Author.Needs.{needs}
 use Rattle.frame.proofs.read.judge.Statement.{statement}
 use Rattle.frame.proofs.read.judge.Tie as tie
-use Rattle.frame.proofs.read.judge.Reads as reads
-use Rattle.frame.proofs.read.judge.Lts as lts
-use Rattle.frame.proofs.read.width.Reads as width-reads
 
--- src/read.rt:135:9
 returns : tie.Need-returns
 unfolding judged
 returns c = simp (lt-ltb _ _ (c .if1 .taken))
 
--- src/read.rt:139:9
 returns-2 : tie.Need-returns-2
 unfolding judged
 returns-2 c = simp (le-ltb _ _ (c .before .before .if1 .left), lt-ltb _ _ (c .if2 .taken))
 
--- src/read.rt:143:9
 returns-3 : tie.Need-returns-3
 unfolding judged
 returns-3 c =
@@ -29,7 +24,6 @@ returns-3 c =
       ne-eqb _ _ (c .if3 .taken),
     )
 
--- src/read.rt:147:9
 returns-4 : tie.Need-returns-4
 unfolding judged
 returns-4 c =
@@ -40,19 +34,15 @@ returns-4 c =
       ne-eqb _ _ (c .if4 .taken),
     )
 
--- src/read.rt:149:13
 sub-r : tie.Need-sub-r
 sub-r c = search needs
 
--- src/read.rt:150:19
 width-requires : tie.Need-width-requires
 width-requires c κs = search needs
 
--- src/read.rt:150:15
 add-r : tie.Need-add-r
 add-r c = omega (arith, c .width .ensures, length-doubled (c .before .before .before .before .before .before .before .before .before .before .args .address))
 
--- src/read.rt:125:1
 returns-5 : tie.Need-returns-5
 unfolding judged
 returns-5 c =

@@ -1,52 +1,43 @@
+-- `frame::read::piece_at` meets its contract. Assumes nothing.
 use Prim.Native.Nat.{_+_, _<_}
 use native.Mathlib.Omega.{arith}
+use borrow.Author.Needs.{needs}
 use lib.ListN.{length}
 use Rattle.frame.proofs.ReadLaws.{lone-at, alone-at, doubled-at, other-at, end-at, early-at}
-use borrow.Author.Needs.{needs}
 use Rattle.frame.proofs.read.piece_at.Statement.{statement}
 use Rattle.frame.proofs.read.piece_at.Tie as tie
-use Rattle.frame.proofs.read.piece_at.Reads as reads
-use Rattle.frame.proofs.read.piece_at.Lts as lts
 
 -- Behind the second test two bytes are left.
 two : (c : tie.Else2) → c .before .before .before .args .i + 1 < length (c .before .before .before .args .s .now)
 two c = omega (arith, c .if2 .left)
 
--- src/read.rt:23:13
 shared-slice-read-b : tie.Need-shared-slice-read-b
 shared-slice-read-b c = search needs
 
--- src/read.rt:25:9
 returns : tie.Need-returns
 returns c =
     let start = c .before .before in
     lone-at (start .args .s .now) (start .args .i) (start .pre) (c .if1 .taken)
 
--- src/read.rt:27:16
 sub-left : tie.Need-sub-left
 sub-left c = search needs
 
--- src/read.rt:29:9
 returns-2 : tie.Need-returns-2
 returns-2 c =
     let start = c .before .before .before in
     alone-at (start .args .s .now) (start .args .i) (start .pre) (omega (arith, c .if2 .taken)) (c .before .if1 .left)
 
--- src/read.rt:31:15
 add-p : tie.Need-add-p
 add-p c = search needs
 
--- src/read.rt:31:13
 shared-slice-read-p : tie.Need-shared-slice-read-p
 shared-slice-read-p c = search needs
 
--- src/read.rt:33:9
 returns-3 : tie.Need-returns-3
 returns-3 c =
     let start = c .before .before .before .before .before in
     doubled-at (start .args .s .now) (start .args .i) (two (c .before .before)) (c .before .before .before .if1 .left) (c .if3 .taken)
 
--- src/read.rt:36:9
 returns-4 : tie.Need-returns-4
 returns-4 c =
     let else3 = c .before in
@@ -54,7 +45,6 @@ returns-4 c =
     other-at (start .args .s .now) (start .args .i) (two (else3 .before .before)) (else3 .before .before .before .if1 .left)
     (else3 .if3 .left) (c .if4 .taken)
 
--- src/read.rt:39:9
 returns-5 : tie.Need-returns-5
 returns-5 c =
     let else3 = c .before .before in
@@ -62,7 +52,6 @@ returns-5 c =
     end-at (start .args .s .now) (start .args .i) (two (else3 .before .before)) (else3 .before .before .before .if1 .left)
     (else3 .if3 .left) (c .before .if4 .left) (c .if5 .taken)
 
--- src/read.rt:19:1
 returns-6 : tie.Need-returns-6
 returns-6 c =
     let else3 = c .before .before in

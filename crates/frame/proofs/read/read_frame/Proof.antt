@@ -1,24 +1,18 @@
+-- `frame::read::read_frame` meets its contract. Assumes nothing.
 use native.Mathlib.Omega.{arith}
+use borrow.Author.Needs.{needs}
 use Rattle.protocol.specs.Numbers.{roomData}
 use Rattle.protocol.proofs.BufferLaws.{emits-no-room, emits-in-room}
 use Rattle.frame.proofs.CheckLaws.{emits-refusal, emits-data, data-short}
-use borrow.Author.Needs.{needs}
 use Rattle.frame.proofs.read.read_frame.Statement.{statement}
 use Rattle.frame.proofs.read.read_frame.Tie as tie
-use Rattle.frame.proofs.read.read_frame.Reads as reads
-use Rattle.frame.proofs.read.read_frame.Lts as lts
-use Rattle.frame.proofs.read.check_frame.Reads as check-frame-reads
-use Rattle.frame.proofs.read.copy_content.Reads as copy-content-reads
 
--- src/read.rt:221:9
 returns : tie.Need-returns
 returns c = emits-no-room roomData _ _ _ (c .if1 .taken)
 
--- src/read.rt:226:9
 check-frame-requires : tie.Need-check-frame-requires
 check-frame-requires c κs = search needs
 
--- src/read.rt:229:9
 returns-2 : tie.Need-returns-2
 returns-2 c =
     let checked = c .before in
@@ -26,7 +20,6 @@ returns-2 c =
     emits-in-room (checked .before .if1 .left)
     (emits-refusal (start .args .address) (start .args .s .now) (start .args .out .now) (checked .check-frame .ensures) (c .if2 .taken))
 
--- src/read.rt:233:9
 copy-content-requires : tie.Need-copy-content-requires
 copy-content-requires c κs =
     let checked = c .before .before in
@@ -37,11 +30,9 @@ copy-content-requires c κs =
       checked .before .if1 .left,
     )
 
--- src/read.rt:217:1
 same-length : tie.Need-same-length
 same-length c = search needs
 
--- src/read.rt:217:1
 returns-3 : tie.Need-returns-3
 returns-3 c =
     let else2 = c .before .before .before .before in

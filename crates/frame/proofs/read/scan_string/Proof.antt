@@ -1,15 +1,12 @@
+-- `frame::read::scan_string` meets its contract. Assumes nothing.
 use Prim.Native.Nat.{_+_, _-_, _^_, _<_}
 use native.Mathlib.Omega.{arith}
 use mathlib.Core.Path.{_≡_, sym, _∙_}
-use lib.ListN.{length}
 use borrow.Author.Needs.{needs}
+use lib.ListN.{length}
 use Rattle.frame.proofs.ReadLaws.{Scanning, begins, lone-on, doubled-on, whole, broken, unended}
 use Rattle.frame.proofs.read.scan_string.Statement.{statement}
 use Rattle.frame.proofs.read.scan_string.Tie as tie
-use Rattle.frame.proofs.read.scan_string.Reads as reads
-use Rattle.frame.proofs.read.scan_string.Lts as lts
-use Rattle.frame.proofs.read.piece_at.Reads as piece-at-reads
-use Rattle.frame.proofs.read.with_byte.Reads as with-byte-reads
 
 abbrev Inv-loop : tie.InvT-loop
 Inv-loop s t₀ i₀ t i = Scanning s t i
@@ -23,19 +20,15 @@ few c =
     let w = c .before .loop .inv in
     (omega (arith, w .tally .count, w .short, w .within, c .before .before .before .good .0 .1), omega (arith, w .tally .total))
 
--- src/read.rt:89:5
 loop-holds : tie.Need-loop-holds Inv-loop μ-loop
 loop-holds c = begins (c .before .args .s .now) (c .before .pre)
 
--- src/read.rt:90:15
 piece-at-requires : tie.Need-piece-at-requires Inv-loop μ-loop
 piece-at-requires c κs = omega arith
 
--- src/read.rt:91:25
 enum-known-b : tie.Need-enum-known-b Inv-loop μ-loop
 enum-known-b c = search needs
 
--- src/read.rt:92:17
 with-byte-requires : tie.Need-with-byte-requires Inv-loop μ-loop
 with-byte-requires c κs = few (c .before .before .before .before)
 
@@ -50,15 +43,12 @@ doubled c =
     doubled-on (at-loop .before .before .args .s .now) (at-loop .loop .i) (at-loop .loop .inv)
     (sym (told .enum-told .given .1) ∙ piece .piece-at .ensures) (c .with-byte2 .ensures)
 
--- src/read.rt:93:17
 add-i : tie.Need-add-i Inv-loop μ-loop
 add-i c = omega arith
 
--- src/read.rt:89:5
 loop-less : tie.Need-loop-less Inv-loop μ-loop
 loop-less c = omega arith
 
--- src/read.rt:89:5
 loop-again : tie.Need-loop-again Inv-loop μ-loop
 loop-again c =
     let told = c .before .before in
@@ -67,31 +57,24 @@ loop-again c =
     lone-on (at-loop .before .before .args .s .now) (at-loop .loop .i) (at-loop .loop .inv)
     (sym (told .b .given .1) ∙ piece .piece-at .ensures) (c .with-byte .ensures)
 
--- src/read.rt:96:17
 enum-told : tie.Need-enum-told Inv-loop μ-loop
 enum-told c = search needs
 
--- src/read.rt:96:17
 with-byte-requires-2 : tie.Need-with-byte-requires-2 Inv-loop μ-loop
 with-byte-requires-2 c κs = few (c .before .before .before)
 
--- src/read.rt:97:17
 add-i-2 : tie.Need-add-i-2 Inv-loop μ-loop
 add-i-2 c = omega (arith, doubled c .within)
 
--- src/read.rt:89:5
 loop-less-2 : tie.Need-loop-less-2 Inv-loop μ-loop
 loop-less-2 c = omega (arith, c .before .before .before .before .loop-test .taken)
 
--- src/read.rt:89:5
 loop-again-2 : tie.Need-loop-again-2 Inv-loop μ-loop
 loop-again-2 c = doubled c
 
--- src/read.rt:99:27
 enum-told-2 : tie.Need-enum-told-2 Inv-loop μ-loop
 enum-told-2 c = search needs
 
--- src/read.rt:99:27
 returns : tie.Need-returns Inv-loop μ-loop
 returns c =
     let piece = c .before .before in
@@ -99,11 +82,9 @@ returns c =
     whole (at-loop .before .before .args .s .now) (at-loop .loop .i) (at-loop .loop .inv)
     (sym (c .enum-told2 .given .1) ∙ piece .piece-at .ensures)
 
--- src/read.rt:100:27
 enum-told-3 : tie.Need-enum-told-3 Inv-loop μ-loop
 enum-told-3 c = search needs
 
--- src/read.rt:100:27
 returns-2 : tie.Need-returns-2 Inv-loop μ-loop
 returns-2 c =
     let piece = c .before .before in
@@ -111,7 +92,6 @@ returns-2 c =
     broken (at-loop .before .before .args .s .now) (at-loop .loop .i) (at-loop .loop .inv)
     (sym (c .enum-told3 .given .1) ∙ piece .piece-at .ensures)
 
--- src/read.rt:79:1
 returns-3 : tie.Need-returns-3 Inv-loop μ-loop
 returns-3 c = unended (c .before .before .before .args .s .now) (c .before .loop .i) (c .before .loop .inv) (c .loop-test .left)
 

@@ -1,15 +1,12 @@
+-- `frame::read::width` meets its contract. Assumes nothing.
 use borrow.Author.Tests.{eq-eqb, ne-eqb}
 use Rattle.protocol.specs.Numbers.{DLE}
 use Rattle.frame.proofs.read.width.Statement.{statement}
 use Rattle.frame.proofs.read.width.Tie as tie
-use Rattle.frame.proofs.read.width.Reads as reads
-use Rattle.frame.proofs.read.width.Lts as lts
 
--- src/read.rt:119:9
 returns : tie.Need-returns
 returns c = rw (eq-eqb (c .before .args .b) DLE (c .if1 .taken))
 
--- src/read.rt:115:1
 returns-2 : tie.Need-returns-2
 returns-2 c = rw (ne-eqb (c .before .args .b) DLE (c .if1 .left))
 

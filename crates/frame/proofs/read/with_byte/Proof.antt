@@ -1,18 +1,14 @@
+-- `frame::read::with_byte` meets its contract. Assumes nothing.
 use native.Mathlib.Omega.{arith}
 use mathlib.Core.Path.{refl}
 use borrow.Author.Tests.{eq-eqb, ne-eqb}
 use borrow.Author.Needs.{needs}
 use Rattle.frame.proofs.read.with_byte.Statement.{statement}
 use Rattle.frame.proofs.read.with_byte.Tie as tie
-use Rattle.frame.proofs.read.with_byte.Reads as reads
-use Rattle.frame.proofs.read.with_byte.Lts as lts
-use Rattle.frame.proofs.checksum.add.Reads as add-reads
 
--- src/read.rt:58:9
 add-requires : tie.Need-add-requires
 add-requires c κs = search needs
 
--- src/read.rt:60:9
 returns : tie.Need-returns
 returns c =
     let start = c .before .before .before in
@@ -22,11 +18,9 @@ returns c =
       first = rw (eq-eqb (start .args .t .count) 0 (c .if1 .taken));
     }
 
--- src/read.rt:67:16
 add-t5 : tie.Need-add-t5
 add-t5 c = search needs
 
--- src/read.rt:54:1
 returns-2 : tie.Need-returns-2
 returns-2 c =
     let start = c .before .before .before .before in

@@ -1,21 +1,17 @@
+-- `frame::size::size_number` meets its contract. Assumes nothing.
 use borrow.Author.Tests.{eq-eqb, ne-eqb, lt-ltb, le-ltb}
 use Rattle.protocol.specs.Frame.{sizeNumber}
 use Rattle.frame.proofs.size.size_number.Statement.{statement}
 use Rattle.frame.proofs.size.size_number.Tie as tie
-use Rattle.frame.proofs.size.size_number.Reads as reads
-use Rattle.frame.proofs.size.size_number.Lts as lts
 
--- src/size.rt:12:9
 returns : tie.Need-returns
 unfolding sizeNumber
 returns c = simp (eq-eqb _ _ (c .if1 .taken))
 
--- src/size.rt:15:9
 returns-2 : tie.Need-returns-2
 unfolding sizeNumber
 returns-2 c = simp (ne-eqb _ _ (c .before .if1 .left), lt-ltb _ _ (c .if2 .taken))
 
--- src/size.rt:8:1
 returns-3 : tie.Need-returns-3
 unfolding sizeNumber
 returns-3 c = simp (ne-eqb _ _ (c .before .if1 .left), le-ltb _ _ (c .if2 .left))

@@ -1,40 +1,32 @@
-use Rattle.frame.proofs.UdpLaws.{zeros-short, zeros-not-0, zeros-not-1, zeros-not-2, zeros-last}
+-- `frame::udp::four_zeros` meets its contract. Assumes nothing.
 use borrow.Author.Needs.{needs}
+use Rattle.frame.proofs.UdpLaws.{zeros-short, zeros-not-0, zeros-not-1, zeros-not-2, zeros-last}
 use Rattle.frame.proofs.udp.four_zeros.Statement.{statement}
 use Rattle.frame.proofs.udp.four_zeros.Tie as tie
-use Rattle.frame.proofs.udp.four_zeros.Reads as reads
-use Rattle.frame.proofs.udp.four_zeros.Lts as lts
 
--- src/udp.rt:20:9
 returns : tie.Need-returns
 returns c = zeros-short (c .before .args .d .now) (c .if1 .taken)
 
--- src/udp.rt:22:8
 shared-slice-read-if2 : tie.Need-shared-slice-read-if2
 shared-slice-read-if2 c = search needs
 
--- src/udp.rt:23:9
 returns-2 : tie.Need-returns-2
 returns-2 c =
     let start = c .before .before .before in
     zeros-not-0 (start .args .d .now) (c .before .before .if1 .left) (c .if2 .taken)
 
--- src/udp.rt:25:8
 shared-slice-read-if3 : tie.Need-shared-slice-read-if3
 shared-slice-read-if3 c = search needs
 
--- src/udp.rt:26:9
 returns-3 : tie.Need-returns-3
 returns-3 c =
     let else2 = c .before .before in
     let else1 = else2 .before .before in
     zeros-not-1 (else1 .before .args .d .now) (else1 .if1 .left) (else2 .if2 .left) (c .if3 .taken)
 
--- src/udp.rt:28:8
 shared-slice-read-if4 : tie.Need-shared-slice-read-if4
 shared-slice-read-if4 c = search needs
 
--- src/udp.rt:29:9
 returns-4 : tie.Need-returns-4
 returns-4 c =
     let else3 = c .before .before in
@@ -42,11 +34,9 @@ returns-4 c =
     let else1 = else2 .before .before in
     zeros-not-2 (else1 .before .args .d .now) (else1 .if1 .left) (else2 .if2 .left) (else3 .if3 .left) (c .if4 .taken)
 
--- src/udp.rt:31:5
 shared-slice-read-result : tie.Need-shared-slice-read-result
 shared-slice-read-result c = search needs
 
--- src/udp.rt:16:1
 returns-5 : tie.Need-returns-5
 returns-5 c =
     let else4 = c .before in

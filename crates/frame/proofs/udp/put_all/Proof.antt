@@ -1,3 +1,4 @@
+-- `frame::udp::put_all` meets its contract. Assumes nothing.
 use Prim.Native.Nat.{_-_}
 use native.Mathlib.Omega.{arith}
 use mathlib.Core.Path.{_≡_}
@@ -5,9 +6,6 @@ use lib.ListN.{length}
 use Rattle.frame.proofs.UdpLaws.{Filling, fill-begins, fill-more, fill-same, fill-ends}
 use Rattle.frame.proofs.udp.put_all.Statement.{statement}
 use Rattle.frame.proofs.udp.put_all.Tie as tie
-use Rattle.frame.proofs.udp.put_all.Reads as reads
-use Rattle.frame.proofs.udp.put_all.Lts as lts
-use Rattle.frame.proofs.buffer.put.Reads as put-reads
 
 abbrev Inv-loop : tie.InvT-loop
 Inv-loop payload out₀ i₀ out i = Filling payload out₀ out i
@@ -21,25 +19,20 @@ same-at c =
     let start = c .before .before .before in
     fill-same (start .args .payload .now) (start .args .out .now) (start .pre) (c .loop .inv)
 
--- src/udp.rt:71:5
 loop-holds : tie.Need-loop-holds Inv-loop μ-loop
 loop-holds c = fill-begins (c .before .before .args .payload .now) (c .before .before .args .out .now) (c .before .before .pre)
 
--- src/udp.rt:72:33
 shared-slice-read-put : tie.Need-shared-slice-read-put Inv-loop μ-loop
 shared-slice-read-put c = omega arith
 
--- src/udp.rt:72:9
 put-requires : tie.Need-put-requires Inv-loop μ-loop
 put-requires c κs =
     let at-loop = c .before .before .before in
     omega (arith, same-at at-loop, at-loop .before .before .before .pre, c .before .before .loop-test .taken)
 
--- src/udp.rt:71:5
 loop-less : tie.Need-loop-less Inv-loop μ-loop
 loop-less c = omega (arith, c .before .before .put .ensures .next, c .before .before .before .before .before .loop-test .taken)
 
--- src/udp.rt:71:5
 loop-again : tie.Need-loop-again Inv-loop μ-loop
 loop-again c =
     let in-loop = c .before .before .before .before .before in
@@ -47,11 +40,9 @@ loop-again c =
     fill-more (start .args .payload .now) (start .args .out .now) (start .pre)
     (in-loop .before .loop .inv) (in-loop .loop-test .taken) (c .before .before .put .ensures)
 
--- src/udp.rt:66:1
 same-length : tie.Need-same-length Inv-loop μ-loop
 same-length c = same-at (c .before)
 
--- src/udp.rt:66:1
 returns : tie.Need-returns Inv-loop μ-loop
 returns c =
     let start = c .before .before .before .before in

@@ -1,47 +1,36 @@
+-- `frame::udp::write_datagram` meets its contract. Assumes nothing.
 use native.Mathlib.Omega.{arith}
 use mathlib.Core.Path.{_≡_, sym, ap, _∙_}
+use borrow.Author.Needs.{needs}
 use lib.ListN.{length, length-drop}
 use Rattle.protocol.specs.Numbers.{roomUdp}
 use Rattle.protocol.proofs.FrameLaws.{size-only}
 use Rattle.protocol.proofs.BufferLaws.{emits-no-room, emits-in-room, emits-unsized, emits-sized, part-lent}
 use Rattle.frame.proofs.UdpLaws.{emits-datagram}
-use borrow.Author.Needs.{needs}
 use Rattle.frame.proofs.udp.write_datagram.Statement.{statement}
 use Rattle.frame.proofs.udp.write_datagram.Tie as tie
-use Rattle.frame.proofs.udp.write_datagram.Reads as reads
-use Rattle.frame.proofs.udp.write_datagram.Lts as lts
-use Rattle.frame.proofs.size.size_number.Reads as size-number-reads
-use Rattle.frame.proofs.udp.put_all.Reads as put-all-reads
-use Rattle.frame.proofs.udp.put_zeros.Reads as put-zeros-reads
 
--- src/udp.rt:82:9
 returns : tie.Need-returns
 returns c = emits-no-room roomUdp _ _ _ (c .if1 .taken)
 
--- src/udp.rt:84:9
 size-number-requires : tie.Need-size-number-requires
 size-number-requires c κs = search needs
 
--- src/udp.rt:86:9
 returns-2 : tie.Need-returns-2
 returns-2 c =
     let start = c .before .before .before .before .before in
     emits-in-room (c .before .before .if1 .left)
     (emits-unsized (start .args .payload .now) _ _ (c .before .size-number .ensures) (c .if2 .taken))
 
--- src/udp.rt:88:32
 sub-put-all : tie.Need-sub-put-all
 sub-put-all c = search needs
 
--- src/udp.rt:88:32
 part-put-all-start : tie.Need-part-put-all-start
 part-put-all-start c = search needs
 
--- src/udp.rt:88:32
 part-put-all-end : tie.Need-part-put-all-end
 part-put-all-end c = search needs
 
--- src/udp.rt:88:9
 put-all-requires : tie.Need-put-all-requires
 put-all-requires c κs =
     let else2 = c .before in
@@ -56,19 +45,15 @@ put-all-requires c κs =
       ap length (part-lent 4 out) ∙ length-drop 4 out,
     )
 
--- src/udp.rt:89:5
 put-zeros-requires : tie.Need-put-zeros-requires
 put-zeros-requires c κs = search needs
 
--- src/udp.rt:90:34
 add-t5 : tie.Need-add-t5
 add-t5 c = search needs
 
--- src/udp.rt:78:1
 same-length : tie.Need-same-length
 same-length c = search needs
 
--- src/udp.rt:78:1
 returns-3 : tie.Need-returns-3
 returns-3 c =
     let zeros = c .before .before in

@@ -1,13 +1,10 @@
+-- `frame::write::put_body` meets its contract. Assumes nothing.
 use Prim.Native.Nat.{_+_, _-_, _≤_}
-use lib.ListN.{length}
 use native.Mathlib.Omega.{arith}
+use lib.ListN.{length}
 use Rattle.frame.proofs.BodyLaws.{Writing, begins, more, same, room-left, ends}
 use Rattle.frame.proofs.write.put_body.Statement.{statement}
 use Rattle.frame.proofs.write.put_body.Tie as tie
-use Rattle.frame.proofs.write.put_body.Reads as reads
-use Rattle.frame.proofs.write.put_body.Lts as lts
-use Rattle.frame.proofs.buffer.put_doubled.Reads as put-doubled-reads
-use Rattle.frame.proofs.checksum.add.Reads as add-reads
 
 abbrev Inv-loop : tie.InvT-loop
 Inv-loop payload out₀ from first at₀ sum₀ i₀ out at sum i = Writing payload out₀ from first out at sum i
@@ -22,36 +19,29 @@ left c =
     room-left (start .args .payload .now) (start .args .out .now) (start .args .from) (start .args .first) (start .pre .0)
     (c .before .loop .inv) (c .loop-test .taken)
 
--- src/write.rt:29:5
 loop-holds : tie.Need-loop-holds Inv-loop μ-loop
 loop-holds c =
     let start = c .before .before in
     begins (start .args .payload .now) (start .args .out .now) (start .args .from) (start .args .first)
     (start .pre .0) (start .pre .1)
 
--- src/write.rt:30:17
 shared-slice-read-b : tie.Need-shared-slice-read-b Inv-loop μ-loop
 shared-slice-read-b c = omega arith
 
--- src/write.rt:31:9
 put-doubled-requires : tie.Need-put-doubled-requires Inv-loop μ-loop
 put-doubled-requires c κs = left (c .before .before)
 
--- src/write.rt:32:9
 add-requires : tie.Need-add-requires Inv-loop μ-loop
 add-requires c κs =
     let at-loop = c .before .before .before .before .before .before in
     omega (arith, at-loop .loop .inv .body .summed)
 
--- src/write.rt:33:9
 add-i : tie.Need-add-i Inv-loop μ-loop
 add-i c = omega arith
 
--- src/write.rt:29:5
 loop-less : tie.Need-loop-less Inv-loop μ-loop
 loop-less c = omega arith
 
--- src/write.rt:29:5
 loop-again : tie.Need-loop-again Inv-loop μ-loop
 loop-again c =
     let in-loop = c .before .before .before .before .before .before in
@@ -60,14 +50,12 @@ loop-again c =
     more (start .args .payload .now) (start .args .out .now) (start .args .from) (start .args .first) (start .pre .0)
     (at-loop .loop .inv) (in-loop .loop-test .taken) (c .before .before .before .put-doubled .ensures) (c .add .ensures)
 
--- src/write.rt:22:1
 same-length : tie.Need-same-length Inv-loop μ-loop
 same-length c =
     let start = c .before .before .before .before in
     same (start .args .payload .now) (start .args .out .now) (start .args .from) (start .args .first) (start .pre .0)
     (c .before .loop .inv)
 
--- src/write.rt:22:1
 returns : tie.Need-returns Inv-loop μ-loop
 returns c =
     let start = c .before .before .before .before in

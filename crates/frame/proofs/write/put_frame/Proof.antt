@@ -1,22 +1,18 @@
+-- `frame::write::put_frame` meets its contract. Assumes nothing.
 use Prim.Native.Nat.{ℕ, _+_, _-_, _*_, _≤_}
-use mathlib.Core.Path.{_≡_, ap, subst}
-use lib.ListN.{length, length-append}
 use native.Mathlib.Omega.{arith}
+use mathlib.Core.Path.{_≡_, ap, subst}
 use mathlib.Core.List.{List, [], _∷_, _++_}
+use borrow.Author.Needs.{needs}
+use lib.ListN.{length, length-append}
 use Rattle.protocol.specs.Numbers.{DLE, STX, ETX}
 use Rattle.protocol.specs.Frame.{doubled}
 use Rattle.protocol.specs.Buffer.{Put}
 use Rattle.protocol.proofs.FrameLaws.{length-doubled}
 use Rattle.protocol.proofs.BufferLaws.{puts, put-room}
 use Rattle.frame.proofs.WriteLaws.{front, pieces, front-short, pieces-frame}
-use borrow.Author.Needs.{needs}
 use Rattle.frame.proofs.write.put_frame.Statement.{statement}
 use Rattle.frame.proofs.write.put_frame.Tie as tie
-use Rattle.frame.proofs.write.put_frame.Reads as reads
-use Rattle.frame.proofs.write.put_frame.Lts as lts
-use Rattle.frame.proofs.buffer.put.Reads as put-reads
-use Rattle.frame.proofs.buffer.put_doubled.Reads as put-doubled-reads
-use Rattle.frame.proofs.write.put_body.Reads as put-body-reads
 
 -- The function's entry, from each call.
 abbrev start-2 : tie.After-put2 → tie.Start
@@ -75,19 +71,15 @@ closing : (c : tie.After-put3)
     → Put 0 (checked (c .before .before .before .before) ++ DLE ∷ []) (start-6 c .args .out .now) (c .put3 .result) (c .put3 .last .0)
 closing c = puts (omega arith) (summed (c .before .before .before .before)) (c .put3 .ensures)
 
--- src/write.rt:43:9
 put-requires : tie.Need-put-requires
 put-requires c κs = search needs
 
--- src/write.rt:44:9
 put-requires-2 : tie.Need-put-requires-2
 put-requires-2 c κs = search needs
 
--- src/write.rt:45:9
 put-doubled-requires : tie.Need-put-doubled-requires
 put-doubled-requires c κs = search needs
 
--- src/write.rt:46:9
 put-body-requires : tie.Need-put-body-requires
 put-body-requires c κs =
     let d = c .before .before .before in
@@ -97,15 +89,12 @@ put-body-requires c κs =
       omega (arith, start .fits .address .fits),
     )
 
--- src/write.rt:47:53
 sub-put-doubled : tie.Need-sub-put-doubled
 sub-put-doubled c = search needs
 
--- src/write.rt:47:52
 cast-put-doubled : tie.Need-cast-put-doubled
 cast-put-doubled c = search needs
 
--- src/write.rt:47:9
 put-doubled-requires-2 : tie.Need-put-doubled-requires-2
 put-doubled-requires-2 c κs =
     let b = c .before .before .before .before in
@@ -113,14 +102,12 @@ put-doubled-requires-2 c κs =
     put-room (filled b) 2
     (omega (arith, start .pre .0, start .pre .1, front-short (start .args .address) (start .args .payload .now)))
 
--- src/write.rt:48:9
 put-requires-3 : tie.Need-put-requires-3
 put-requires-3 c κs =
     let d = c .before .before .before in
     let room : d .put-doubled2 .result + 2 ≤ length (d .put-doubled2 .last .0) = put-room (summed d) 2 (short d) in
     omega (arith, room)
 
--- src/write.rt:49:5
 put-requires-4 : tie.Need-put-requires-4
 put-requires-4 c κs =
     let d = c .before .before .before .before .before .before .before in
@@ -129,11 +116,9 @@ put-requires-4 c κs =
     (omega (arith, short d, length-append (checked d) (DLE ∷ []))) in
     omega (arith, room)
 
--- src/write.rt:39:1
 same-length : tie.Need-same-length
 same-length c = search needs
 
--- src/write.rt:39:1
 returns : tie.Need-returns
 returns c =
     let p = c .before .before in
