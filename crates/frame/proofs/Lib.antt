@@ -4,3 +4,4 @@ pub mod WriteLaws
 pub mod ReadLaws
 pub mod CheckLaws
 pub mod UdpLaws
+pub mod PlaceLaws

@@ -2,6 +2,7 @@
 mod buffer;
 mod checksum;
 pub mod read;
+pub mod stream;
 mod size;
 pub mod udp;
 pub mod write;

@@ -1,0 +1,114 @@
+// The stream reader: bytes fed as they come, over a state that the caller lends.
+use protocol::{DLE, ETX, MAX_CONTENT, STX};
+
+ghost use mathlib.Core.Path.{_≡_};
+ghost use Prim.Native.Nat.{_+_, _≤_, _<_};
+ghost use lib.ListN.{length};
+ghost use Rattle.frame.specs.Stream.{placeOf, moveOf, collectOf, pairedOf};
+
+// The length of a stream state, and where its content begins (docs/FORMATS.md).
+pub const STATE_LEN: usize = 261;
+
+// Where a reader stands: the phase (0 outside, 1 outside with a 10h waiting, 2 inside, 3 inside with a 10h waiting), and how
+// many content bytes it has.
+pub(crate) struct Place {
+    pub phase: u8,
+    pub len: usize,
+}
+
+pub(crate) enum Found {
+    At(Place),
+    Formless,
+}
+
+fn wide(b: u8) -> usize
+    ensures { λ r. ⌜ r ≡ b ⌝ }
+{
+    b as usize
+}
+
+// Where a lent state says that the reader stands. A look at its length and its first three bytes.
+fn place_of(state: &[u8]) -> Found
+    ensures { λ r. ⌜ r ≡ placeOf (now (state .entry)) ⌝ }
+{
+    if state.len() != STATE_LEN {
+        return Found::Formless;
+    }
+    let phase = state[0];
+    let len = wide(state[1]) * 256 + wide(state[2]);
+    if 3 < phase {
+        return Found::Formless;
+    }
+    if MAX_CONTENT < len {
+        return Found::Formless;
+    }
+    if 2 <= phase {
+        return Found::At(Place { phase, len });
+    }
+    if len == 0 {
+        return Found::At(Place { phase, len });
+    }
+    Found::Formless
+}
+
+// What one byte brings about: the reader goes on, or keeps the byte as content and goes on; or a frame is closed or dropped.
+pub(crate) enum Move {
+    On(Place),
+    Keep(Place),
+    Closed,
+    BadPair,
+    TooLong,
+}
+
+// One content byte more.
+fn collect(len: usize) -> Move
+    ensures { λ r. ⌜ r ≡ collectOf len ⌝ }
+{
+    if len < MAX_CONTENT {
+        return Move::Keep(Place { phase: 2, len: len + 1 });
+    }
+    Move::TooLong
+}
+
+// The second byte of a pair inside a frame.
+fn paired(len: usize, b: u8) -> Move
+    ensures { λ r. ⌜ r ≡ pairedOf len b ⌝ }
+{
+    if b == DLE {
+        return collect(len);
+    }
+    if b == ETX {
+        return Move::Closed;
+    }
+    if b == STX {
+        return Move::On(Place { phase: 2, len: 0 });
+    }
+    Move::BadPair
+}
+
+// One byte, from where the reader stands.
+fn move_on(place: Place, b: u8) -> Move
+    ensures { λ r. ⌜ r ≡ moveOf (place .phase) (place .len) b ⌝ }
+{
+    let phase = place.phase;
+    let len = place.len;
+    if phase == 3 {
+        return paired(len, b);
+    }
+    if phase == 2 {
+        if b == DLE {
+            return Move::On(Place { phase: 3, len });
+        }
+        return collect(len);
+    }
+    if phase == 1 {
+        if b == STX {
+            return Move::On(Place { phase: 2, len: 0 });
+        }
+        return Move::On(Place { phase: 0, len: 0 });
+    }
+    if b == DLE {
+        return Move::On(Place { phase: 1, len: 0 });
+    }
+    Move::On(Place { phase: 0, len: 0 })
+}
