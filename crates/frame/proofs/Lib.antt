@@ -5,3 +5,4 @@ pub mod ReadLaws
 pub mod CheckLaws
 pub mod UdpLaws
 pub mod PlaceLaws
+pub mod FeedLaws

@@ -4,7 +4,7 @@ use protocol::{DLE, ETX, MAX_CONTENT, STX};
 ghost use mathlib.Core.Path.{_≡_};
 ghost use Prim.Native.Nat.{_+_, _≤_, _<_};
 ghost use lib.ListN.{length};
-ghost use Rattle.frame.specs.Stream.{placeOf, moveOf, collectOf, pairedOf};
+ghost use Rattle.frame.specs.Stream.{placeOf, moveOf, collectOf, pairedOf, standing, runFrom, RunIs};
 
 // The length of a stream state, and where its content begins (docs/FORMATS.md).
 pub const STATE_LEN: usize = 261;
@@ -111,4 +111,68 @@ fn move_on(place: Place, b: u8) -> Move
         return Move::On(Place { phase: 1, len: 0 });
     }
     Move::On(Place { phase: 0, len: 0 })
+}
+
+// How a call ended: with no frame, with one closed that has so many content bytes, or with one dropped.
+pub(crate) enum End {
+    NoFrame,
+    ClosedWith(usize),
+    Paired,
+    Long,
+}
+
+pub(crate) struct Run {
+    pub end: End,
+    pub taken: usize,
+    pub place: Place,
+}
+
+// Bytes fed from a place until one closes or drops a frame. Content goes into the state as it comes; its first three bytes are
+// left to put_place.
+fn run_bytes(start: Place, bytes: &[u8], state: &mut [u8]) -> Run
+    requires { ⌜ placeOf (now state) ≡ Found.At start ⌝ }
+    ensures { λ r. ⌜ RunIs (runFrom (standing (now (state .entry))) (now (state .entry)) (now (bytes .entry))) (r .end) (r .taken) (r .place) (now (state .exit)) ⌝ }
+{
+    let mut place = start;
+    let mut i = 0;
+    while i < bytes.len() {
+        let b = bytes[i];
+        i += 1;
+        match move_on(place, b) {
+            Move::On(next) => {
+                place = next;
+            }
+            Move::Keep(next) => {
+                let at = place.len + 3;
+                state[at] = b;
+                place = next;
+            }
+            Move::Closed => {
+                return Run {
+                    end: End::ClosedWith(place.len),
+                    taken: i,
+                    place: Place { phase: 0, len: 0 },
+                };
+            }
+            Move::BadPair => {
+                return Run {
+                    end: End::Paired,
+                    taken: i,
+                    place: Place { phase: 0, len: 0 },
+                };
+            }
+            Move::TooLong => {
+                return Run {
+                    end: End::Long,
+                    taken: i,
+                    place: Place { phase: 0, len: 0 },
+                };
+            }
+        }
+    }
+    Run {
+        end: End::NoFrame,
+        taken: i,
+        place,
+    }
 }
