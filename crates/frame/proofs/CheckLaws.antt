@@ -209,6 +209,42 @@ checks-passed a s c e h =
           ∙ sym payload;
     }
 
+-- A content and its tally are judged alike: both refused with a number, or both passed.
+pub data Alike (a : ℕ) (c : List ℕ) (t : Tally) : Type 0 where
+  both-refused : (n : ℕ) → ltb 0 n ≡ true → judge a c ≡ refused n → judged a t ≡ failed n → Alike a c t
+  both-passed : 3 ≤ length c → judge a c ≡ received (dataIn c) → judged a t ≡ passed a (length c) → Alike a c t
+
+module _ (a : ℕ) (c : List ℕ) (t : Tally) (w : Tallies c t) (all : Bytes c) (most : length c ≤ maxContent) where
+  long? : ltb maxContent (t .count) ≡ false
+  long? = le-ltb maxContent (t .count) (omega (arith, most, w .count))
+
+  long-enough : ltb (t .count) 3 ≡ false → 3 ≤ length c
+  long-enough e = omega (arith, ltb-false (t .count) 3 e, w .count)
+
+  content-by : ltb (t .count) 3 ≡ false → (u v : Bool) → eqb (t .sum) 255 ≡ u → eqb (t .first) a ≡ v
+      → judge a c ≡ cond u (cond v (received (dataIn c)) (refused otherAddress)) (refused badChecksum)
+  content-by e u v g h =
+      judge-by a c false u v
+      (le-ltb (length c) 3 (long-enough e))
+      (summed-same c (omega (arith, long-enough e)) (all (length c - 1)) ∙ ap (λ n. eqb n 255) (sym (w .total)) ∙ g)
+      (ap (λ n. eqb n a) (sym (w .first)) ∙ h)
+
+  pub alike : Alike a c t
+  alike = go (ltb (t .count) 3) refl (eqb (t .sum) 255) refl (eqb (t .first) a) refl
+    where
+      go : (p : Bool) → ltb (t .count) 3 ≡ p → (u : Bool) → eqb (t .sum) 255 ≡ u → (v : Bool) → eqb (t .first) a ≡ v → Alike a c t
+      go true e u g v h =
+          both-refused tooShort refl
+          (judge-by a c true (isSummed c) (eqb (addressIn c) a) (ap (λ n. ltb n 3) (sym (w .count)) ∙ e) refl refl)
+          (judged-by a t true false u v e long? g h)
+      go false e false g v h =
+          both-refused badChecksum refl (content-by e false v g h) (judged-by a t false false false v e long? g h)
+      go false e true g false h =
+          both-refused otherAddress refl (content-by e true false g h) (judged-by a t false false true false e long? g h)
+      go false e true g true h =
+          both-passed (long-enough e) (content-by e true true g h)
+          (judged-by a t false false true true e long? g h ∙ ap (passed a) (w .count))
+
 module _ (a : ℕ) (s c : List ℕ) (t : Tally) (open? : isOpened s ≡ true) (is : undouble false (drop 2 s) ≡ some c)
     (w : Tallies c t) (all : Bytes s) where
   reads : readFrame a s ≡ judgeWhole a (some c)
@@ -220,49 +256,30 @@ module _ (a : ℕ) (s c : List ℕ) (t : Tally) (open? : isOpened s ≡ true) (i
       (bytes-left (double c) (DLE ∷ ETX ∷ [])
       (subst Bytes (double-undouble (drop 2 s) false c is) (bytes-drop 2 s all)))
 
-  summed? : 3 ≤ length c → (u : Bool) → eqb (t .sum) 255 ≡ u → isSummed c ≡ u
-  summed? h u e =
-      summed-same c (omega arith) (content-bytes (length c - 1)) ∙ ap (λ n. eqb n 255) (sym (w .total)) ∙ e
+  checks-short : length c ≤ maxContent → Alike a c t → Checks a s (judged a t)
+  checks-short h (both-refused n l e f) =
+      rw f (checks-refused a s n (reads ∙ judgeWhole-by a c false (le-ltb maxContent (length c) h) ∙ e))
+  checks-short h (both-passed l e f) =
+      rw f (checks-passed a s c (reads ∙ judgeWhole-by a c false (le-ltb maxContent (length c) h) ∙ e) l)
 
-  judge-content : 3 ≤ length c → length c ≤ maxContent → (u v : Bool) → eqb (t .sum) 255 ≡ u → eqb (t .first) a ≡ v
-      → readFrame a s ≡ cond u (cond v (received (dataIn c)) (refused otherAddress)) (refused badChecksum)
-  judge-content h k u v g f =
-      reads
-      ∙ judgeWhole-by a c false (le-ltb maxContent (length c) k)
-      ∙ judge-by a c false u v (le-ltb (length c) 3 h) (summed? h u g) (ap (λ n. eqb n a) (sym (w .first)) ∙ f)
-
-  least : ltb (t .count) 3 ≡ false → 3 ≤ length c
-  least e = omega (arith, ltb-false (t .count) 3 e, w .count)
-
-  most : ltb maxContent (t .count) ≡ false → length c ≤ maxContent
-  most f = omega (arith, ltb-false maxContent (t .count) f, w .count)
+  checks-long : maxContent < length c → Checks a s (judged a t)
+  checks-long h =
+      rw
+      (judged-by a t false true (eqb (t .sum) 255) (eqb (t .first) a)
+      (le-ltb (t .count) 3 (omega (arith, h, w .count)))
+      (lt-ltb maxContent (t .count) (omega (arith, h, w .count)))
+      refl
+      refl)
+      (checks-refused a s tooLong (reads ∙ judgeWhole-by a c true (lt-ltb maxContent (length c) h)))
 
   checks-tally : Checks a s (judged a t)
-  checks-tally = go (ltb (t .count) 3) refl (ltb maxContent (t .count)) refl (eqb (t .sum) 255) refl (eqb (t .first) a) refl
+  checks-tally = go (ltb maxContent (length c)) refl
     where
-      go : (p : Bool) → ltb (t .count) 3 ≡ p → (q : Bool) → ltb maxContent (t .count) ≡ q → (u : Bool) → eqb (t .sum) 255 ≡ u
-          → (v : Bool) → eqb (t .first) a ≡ v → Checks a s (judged a t)
-      go true e q f u g v h =
-          let short : length c < 3 = omega (arith, ltb-true (t .count) 3 e, w .count) in
-          rw (judged-by a t true q u v e f g h)
-          (checks-refused a s tooShort
-          (reads
-          ∙ judgeWhole-by a c false (le-ltb maxContent (length c) (omega arith))
-          ∙ judge-by a c true (isSummed c) (eqb (addressIn c) a) (lt-ltb (length c) 3 short) refl refl))
-      go false e true f u g v h =
-          let long : maxContent < length c = omega (arith, ltb-true maxContent (t .count) f, w .count) in
-          rw (judged-by a t false true u v e f g h)
-          (checks-refused a s tooLong (reads ∙ judgeWhole-by a c true (lt-ltb maxContent (length c) long)))
-      go false e false f false g v h =
-          rw (judged-by a t false false false v e f g h)
-          (checks-refused a s badChecksum (judge-content (least e) (most f) false v g h))
-      go false e false f true g false h =
-          rw (judged-by a t false false true false e f g h)
-          (checks-refused a s otherAddress (judge-content (least e) (most f) true false g h))
-      go false e false f true g true h =
-          rw (judged-by a t false false true true e f g h)
-          (subst (λ n. Checks a s (passed a n)) (sym (w .count))
-          (checks-passed a s c (judge-content (least e) (most f) true true g h) (least e)))
+      go : (q : Bool) → ltb maxContent (length c) ≡ q → Checks a s (judged a t)
+      go true f = checks-long (ltb-true maxContent (length c) f)
+      go false f =
+          let h : length c ≤ maxContent = ltb-false maxContent (length c) f in
+          checks-short h (alike a c t w content-bytes h)
 
 -- What a pass over an opened string finds decides what is known of it.
 pub checks-whole : (a : ℕ) (s : List ℕ) (t : Tally) → isOpened s ≡ true → Bytes s → ScanOf (undouble false (drop 2 s)) (Whole t)

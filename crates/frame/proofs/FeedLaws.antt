@@ -57,7 +57,7 @@ unfolding half
 drop-keep w = ap (drop 3) (keep-placed w)
 
 keep-past : (s : Stream) (x y : List ℕ) → drop (length (contentIn s)) (drop 3 x) ≡ drop (length (contentIn s)) (drop 3 y)
-  → keep s x ≡ keep s y
+    → keep s x ≡ keep s y
 keep-past s x y e = keep-is s x ∙ ap (λ l. head s (contentIn s ++ l)) e ∙ sym (keep-is s y)
 
 keep-by : (s : Stream) (x y : List ℕ) → drop 3 x ≡ drop 3 y → keep s x ≡ keep s y
@@ -76,19 +76,20 @@ Moved s b BadPair = step s b ≡ ends rule.droppedPair
 Moved s b TooLong = step s b ≡ ends rule.droppedLong
 
 on-moved : (s s′ : Stream) (b : ℕ) (p : Place) → step s b ≡ on s′ → p .phase ≡ phaseOf s′ → p .len ≡ length (contentIn s′)
-  → take (p .len) (contentIn s) ≡ contentIn s′ → Moved s b (On p)
-on-moved s s′ b p e f g h =
-    (ap (λ m. m .event) e,
-    f ∙ sym (ap (λ m. phaseOf (m .after)) e),
-    g ∙ sym (ap (λ m. length (contentIn (m .after))) e),
-    h ∙ sym (ap (λ m. contentIn (m .after)) e))
+    → take (p .len) (contentIn s) ≡ contentIn s′ → Moved s b (On p)
+on-moved s s′ b p e f g h = (
+  ap (λ m. m .event) e,
+  f ∙ sym (ap (λ m. phaseOf (m .after)) e),
+  g ∙ sym (ap (λ m. length (contentIn (m .after))) e),
+  h ∙ sym (ap (λ m. contentIn (m .after)) e),
+)
 
 collect-moved : (s : Stream) (b : ℕ) → step s b ≡ collect (contentIn s) b → Moved s b (collectOf (length (contentIn s)))
 unfolding collectOf collect
 collect-moved s b e = go (ltb (length (contentIn s)) maxContent) refl
   where
     go : (t : Bool) → ltb (length (contentIn s)) maxContent ≡ t
-      → Moved s b (cond t (Keep (place 2 (length (contentIn s) + 1))) TooLong)
+        → Moved s b (cond t (Keep (place 2 (length (contentIn s) + 1))) TooLong)
     go true h = (e ∙ rw h, refl, ltb-true (length (contentIn s)) maxContent h)
     go false h = e ∙ rw h
 
@@ -97,7 +98,7 @@ unfolding pairedOf step
 paired-moved c b = go (eqb b DLE) refl (eqb b ETX) refl (eqb b STX) refl
   where
     go : (t : Bool) → eqb b DLE ≡ t → (u : Bool) → eqb b ETX ≡ u → (v : Bool) → eqb b STX ≡ v
-      → Moved (inside true c) b (cond t (collectOf (length c)) (cond u Closed (cond v (On (place 2 0)) BadPair)))
+        → Moved (inside true c) b (cond t (collectOf (length c)) (cond u Closed (cond v (On (place 2 0)) BadPair)))
     go true e u f v g = collect-moved (inside true c) b (rw e (ap (collect c) (sym (eqb-true b DLE e))))
     go false e true f v g = rw (e, f)
     go false e false f true g = on-moved (inside true c) (inside false []) b (place 2 0) (rw (e, f, g)) refl refl refl
@@ -139,13 +140,13 @@ abbrev plus : ℕ → Ran → Ran
 plus i r = record { event = r .event; taken = i + r .taken; after = r .after; bytes = r .bytes }
 
 run-cons : (s : Stream) (st : List ℕ) (b : ℕ) (bs : List ℕ)
-  → runFrom s st (b ∷ bs)
-  ≡ next (step s b .event) (step s b .after) (keep (step s b .after) st) (runFrom (step s b .after) (keep (step s b .after) st) bs)
+    → runFrom s st (b ∷ bs)
+    ≡ next (step s b .event) (step s b .after) (keep (step s b .after) st) (runFrom (step s b .after) (keep (step s b .after) st) bs)
 unfolding runFrom
 run-cons s st b bs = refl
 
 run-on : (s : Stream) (st : List ℕ) (b : ℕ) (bs : List ℕ) → step s b .event ≡ rule.nothing
-  → runFrom s st (b ∷ bs) ≡ one-more (runFrom (step s b .after) (keep (step s b .after) st) bs)
+    → runFrom s st (b ∷ bs) ≡ one-more (runFrom (step s b .after) (keep (step s b .after) st) bs)
 unfolding next
 run-on s st b bs e =
     run-cons s st b bs
@@ -194,7 +195,7 @@ module _ (st₀ bytes : List ℕ) {p : Place} {st : List ℕ} {i : ℕ} (w : Run
 
   -- The rest of the call, behind a byte that ends no frame.
   rest-on : (s′ : Stream) (st′ : List ℕ) → step s b .event ≡ rule.nothing → step s b .after ≡ s′ → keep s′ (keep s st) ≡ keep s′ st′
-    → runFrom (standing st₀) st₀ bytes ≡ plus (i + 1) (runFrom s′ (keep s′ st′) (drop (i + 1) bytes))
+      → runFrom (standing st₀) st₀ bytes ≡ plus (i + 1) (runFrom s′ (keep s′ st′) (drop (i + 1) bytes))
   rest-on s′ st′ e f g =
       w .whole
       ∙ ap (λ l. plus i (runFrom s (keep s st) l)) first
@@ -211,16 +212,16 @@ module _ (st₀ bytes : List ℕ) {p : Place} {st : List ℕ} {i : ℕ} (w : Run
       record {
         s = s′;
         placed =
-          record {
-            phase = m .1;
-            len = m .2;
-            most = omega (arith, short, w .placed .most);
-            content =
-              sym (take-take (q .len) (p .len) (drop 3 st) short) ∙ ap (take (q .len)) (w .placed .content) ∙ m .3;
-            size = w .placed .size
-          };
+            record {
+              phase = m .1;
+              len = m .2;
+              most = omega (arith, short, w .placed .most);
+              content =
+                  sym (take-take (q .len) (p .len) (drop 3 st) short) ∙ ap (take (q .len)) (w .placed .content) ∙ m .3;
+              size = w .placed .size;
+            };
         whole = rest-on s′ st (m .0) refl (keep-by s′ (keep s st) st (drop-keep (w .placed)));
-        within = omega (arith, h)
+        within = omega (arith, h);
       }
 
   -- A content byte stored behind the others.
@@ -237,41 +238,41 @@ module _ (st₀ bytes : List ℕ) {p : Place} {st : List ℕ} {i : ℕ} (w : Run
       let grown : length (c ++ b ∷ []) ≡ suc (p .len) = omega (arith, length-append c (b ∷ []), w .placed .len) in
       let room : p .len < length area = omega (arith, m .2, w .placed .len, w .placed .size, length-drop 3 st) in
       let stored : drop 3 (set st (p .len + 3) b) ≡ set area (p .len) b =
-            ap (λ n. drop 3 (set st n b)) (add-comm (p .len) 3) ∙ drop-set-add 3 st (p .len) b in
+      ap (λ n. drop 3 (set st n b)) (add-comm (p .len) 3) ∙ drop-set-add 3 st (p .len) b in
       let past : drop (length (c ++ b ∷ [])) (drop 3 (keep s st)) ≡ drop (length (c ++ b ∷ [])) (drop 3 (set st (p .len + 3) b)) =
-            ap (drop (length (c ++ b ∷ []))) (drop-keep (w .placed))
-            ∙ sym (ap (drop (length (c ++ b ∷ []))) stored ∙ drop-set-lt (length (c ++ b ∷ [])) area (p .len) b (omega (arith, grown))) in
+      ap (drop (length (c ++ b ∷ []))) (drop-keep (w .placed))
+      ∙ sym (ap (drop (length (c ++ b ∷ []))) stored ∙ drop-set-lt (length (c ++ b ∷ [])) area (p .len) b (omega (arith, grown))) in
       record {
         s = s′;
         placed =
-          record {
-            phase = ap (λ x. x .phase) (m .1);
-            len = one ∙ sym grown;
-            most = omega (arith, one, m .2, w .placed .len);
-            content =
-              ap₂ take one stored
-              ∙ take-suc-set area (p .len) b room
-              ∙ ap (λ l. l ++ b ∷ []) (w .placed .content);
-            size = length-set st (p .len + 3) b ∙ w .placed .size
-          };
+            record {
+              phase = ap (λ x. x .phase) (m .1);
+              len = one ∙ sym grown;
+              most = omega (arith, one, m .2, w .placed .len);
+              content =
+                  ap₂ take one stored
+                  ∙ take-suc-set area (p .len) b room
+                  ∙ ap (λ l. l ++ b ∷ []) (w .placed .content);
+              size = length-set st (p .len + 3) b ∙ w .placed .size;
+            };
         whole = rest-on s′ (set st (p .len + 3) b) (ap (λ x. x .event) (m .0)) (ap (λ x. x .after) (m .0)) (keep-past s′ (keep s st) (set st (p .len + 3) b) past);
-        within = omega (arith, h)
+        within = omega (arith, h);
       }
 
   -- A byte that closes or drops a frame.
   ends-with : (x : Event) → step s b ≡ ends x → ((r : Ran) → next x rule.begin (keep rule.begin (keep s st)) r ≡ ended x rule.begin (keep rule.begin (keep s st)))
-    → ((c : List ℕ) → x ≡ rule.closed c → c ≡ contentIn s)
-    → RunIs (runFrom (standing st₀) st₀ bytes) (endOf x) (i + 1) (place 0 0) st
+      → ((c : List ℕ) → x ≡ rule.closed c → c ≡ contentIn s)
+      → RunIs (runFrom (standing st₀) st₀ bytes) (endOf x) (i + 1) (place 0 0) st
   ends-with x e f g =
       let k : List ℕ = keep s st in
       let bs : List ℕ = drop (i + 1) bytes in
       let is : runFrom (standing st₀) st₀ bytes ≡ plus i (ended x rule.begin (keep rule.begin k)) =
-            w .whole
-            ∙ ap (λ l. plus i (runFrom s k l)) first
-            ∙ ap (plus i)
-            (run-cons s k b bs
-            ∙ ap (λ m. next (m .event) (m .after) (keep (m .after) k) (runFrom (m .after) (keep (m .after) k) bs)) e
-            ∙ f (runFrom rule.begin (keep rule.begin k) bs)) in
+      w .whole
+      ∙ ap (λ l. plus i (runFrom s k l)) first
+      ∙ ap (plus i)
+      (run-cons s k b bs
+      ∙ ap (λ m. next (m .event) (m .after) (keep (m .after) k) (runFrom (m .after) (keep (m .after) k) bs)) e
+      ∙ f (runFrom rule.begin (keep rule.begin k) bs)) in
       subst (λ r. RunIs r (endOf x) (i + 1) (place 0 0) st) (sym is)
       (record {
         end = refl;
@@ -283,8 +284,8 @@ module _ (st₀ bytes : List ℕ) {p : Place} {st : List ℕ} {i : ℕ} (w : Run
         bytes = sym (keep-by rule.begin k st (drop-keep (w .placed)));
         size = w .placed .size;
         closed = λ c q.
-          let same : length c ≡ p .len = ap length (g c q) ∙ sym (w .placed .len) in
-          (ap (λ n. take n (drop 3 st)) same ∙ w .placed .content ∙ sym (g c q), omega (arith, same, w .placed .most))
+            let same : length c ≡ p .len = ap length (g c q) ∙ sym (w .placed .len) in
+            (ap (λ n. take n (drop 3 st)) same ∙ w .placed .content ∙ sym (g c q), omega (arith, same, w .placed .most));
       })
 
   pub closes : Closed ≡ moveOf (p .phase) (p .len) b → RunIs (runFrom (standing st₀) st₀ bytes) (ClosedWith (p .len)) (i + 1) (place 0 0) st
@@ -303,14 +304,14 @@ module _ (st₀ bytes : List ℕ) {p : Place} {st : List ℕ} {i : ℕ} (w : Run
 
 -- All bytes taken.
 pub all-taken : (st₀ bytes : List ℕ) {p : Place} {st : List ℕ} {i : ℕ} → Running st₀ bytes p st i → length bytes ≤ i
-  → RunIs (runFrom (standing st₀) st₀ bytes) NoFrame i p st
+    → RunIs (runFrom (standing st₀) st₀ bytes) NoFrame i p st
 unfolding runFrom
 all-taken st₀ bytes {p} {st} {i} w h =
     let none-left : drop i bytes ≡ [] = drop-of-length-le bytes h in
     let is : runFrom (standing st₀) st₀ bytes ≡ record { event = rule.nothing; taken = i; after = w .s; bytes = keep (w .s) st } =
-          w .whole
-          ∙ ap (λ l. plus i (runFrom (w .s) (keep (w .s) st) l)) none-left
-          ∙ ap (λ n. record { event = rule.nothing; taken = n; after = w .s; bytes = keep (w .s) st }) (add-zero i) in
+    w .whole
+    ∙ ap (λ l. plus i (runFrom (w .s) (keep (w .s) st) l)) none-left
+    ∙ ap (λ n. record { event = rule.nothing; taken = n; after = w .s; bytes = keep (w .s) st }) (add-zero i) in
     subst (λ r. RunIs r NoFrame i p st) (sym is)
     (record {
       end = refl;
@@ -321,7 +322,7 @@ all-taken st₀ bytes {p} {st} {i} w h =
       content = w .placed .content;
       bytes = refl;
       size = w .placed .size;
-      closed = λ c q. absurd (not-closed rule.nothing c refl q)
+      closed = λ c q. absurd (not-closed rule.nothing c refl q);
     })
 
 -- A state that has a form.
@@ -340,7 +341,7 @@ form-of st h =
       size = eqb-true (length st) stateLength (and-left (eqb (length st) stateLength) _ h);
       phase = leb-true (phaseIn st) 3 (and-left (leb (phaseIn st) 3) _ a);
       most = leb-true (lengthIn st) maxContent (and-left (leb (lengthIn st) maxContent) _ b);
-      inside-or-empty = and-right (leb (lengthIn st) maxContent) _ b
+      inside-or-empty = and-right (leb (lengthIn st) maxContent) _ b;
     }
 
 -- The stream of a phase and a content has that phase, and outside no content.
@@ -392,7 +393,7 @@ module _ (st : List ℕ) (f : Formed st) where
         len = sym (ap length content-standing ∙ area-length);
         most = f .most;
         content = sym content-standing;
-        size = f .size
+        size = f .size;
       }
 
   -- Its own form changes nothing in it.
@@ -428,7 +429,7 @@ run-begins st bytes {p} h all =
       s = standing st;
       placed = subst (λ x. Placed (standing st) x st) (q .1) (stands st f);
       whole =
-        sym (ap (λ n. record { event = r .event; taken = n; after = r .after; bytes = r .bytes }) (zero-add (r .taken)))
-        ∙ ap (λ x. plus 0 (runFrom (standing st) x bytes)) (sym (keep-standing st f all));
-      within = omega arith
+          sym (ap (λ n. record { event = r .event; taken = n; after = r .after; bytes = r .bytes }) (zero-add (r .taken)))
+          ∙ ap (λ x. plus 0 (runFrom (standing st) x bytes)) (sym (keep-standing st f all));
+      within = omega arith;
     }

@@ -6,3 +6,5 @@ pub mod CheckLaws
 pub mod UdpLaws
 pub mod PlaceLaws
 pub mod FeedLaws
+pub mod CloseLaws
+pub mod CallLaws

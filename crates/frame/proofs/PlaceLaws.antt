@@ -13,7 +13,7 @@ use Rattle.frame.specs.Stream.{stateLength, phaseIn, lengthIn, hasForm, 
 
 module _ (st : List ℕ) where
   hasForm-by : (t u v w x : Bool) → eqb (length st) stateLength ≡ t → leb (phaseIn st) 3 ≡ u → leb (lengthIn st) maxContent ≡ v
-    → leb 2 (phaseIn st) ≡ w → eqb (lengthIn st) 0 ≡ x → hasForm st ≡ (t && (u && (v && (w || x))))
+      → leb 2 (phaseIn st) ≡ w → eqb (lengthIn st) 0 ≡ x → hasForm st ≡ (t && (u && (v && (w || x))))
   unfolding hasForm
   hasForm-by t u v w x p q r s e = rw (p, q, r, s, e)
 

@@ -135,7 +135,7 @@ prepend-push c b none = refl
 prepend-push c b (some d) = ap some (sym (append-assoc c (b ∷ []) d))
 
 -- One byte more in a tally.
-tallies-more : (c : List ℕ) (b : ℕ) {t r : Tally} → Tallies c t → OneMore t b r → Tallies (c ++ b ∷ []) r
+pub tallies-more : (c : List ℕ) (b : ℕ) {t r : Tally} → Tallies c t → OneMore t b r → Tallies (c ++ b ∷ []) r
 tallies-more c b {t} {r} w m =
     record {
       count = omega (arith, m .count, w .count, length-append c (b ∷ []));

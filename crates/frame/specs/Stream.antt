@@ -138,7 +138,7 @@ fedBy address r =
       number = outcome address (r .event) .number;
       taken = r .taken;
       payload = outcome address (r .event) .payload;
-      state = r .bytes
+      state = r .bytes;
     }
 
 -- A call that takes no byte and changes nothing.

@@ -26,3 +26,15 @@ pub(crate) fn put_doubled(out: &mut [u8], at: usize, b: u8) -> usize
     }
     next
 }
+
+// Bytes copied to the front of an output that has room for them. Returns how many.
+pub(crate) fn put_all(payload: &[u8], out: &mut [u8]) -> usize
+    requires { ⌜ length (now payload) ≤ length (now out) ⌝ }
+    ensures { λ r. ⌜ Put 0 (now (payload .entry)) (now (out .entry)) r (now (out .exit)) ⌝ }
+{
+    let mut i = 0;
+    while i < payload.len() {
+        i = put(out, i, payload[i]);
+    }
+    i
+}

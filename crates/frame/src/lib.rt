@@ -2,8 +2,8 @@
 mod buffer;
 mod checksum;
 pub mod read;
-pub mod stream;
 mod size;
+pub mod stream;
 pub mod udp;
 pub mod write;
 

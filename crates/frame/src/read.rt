@@ -65,7 +65,7 @@ pub(crate) struct Tally {
 }
 
 // The tally with one byte more.
-fn with_byte(t: Tally, b: u8) -> Tally
+pub(crate) fn with_byte(t: Tally, b: u8) -> Tally
     requires { ⌜ (t .count < 2 ^ 63) × (t .sum < 2 ^ 8) ⌝ }
     ensures { λ r. ⌜ OneMore t b r ⌝ }
 {
@@ -136,7 +136,7 @@ fn width(b: u8) -> usize
 }
 
 // A content judged by its tally: 4, 5, 6, 7 or 0.
-fn judge(address: u8, t: Tally) -> Checked
+pub(crate) fn judge(address: u8, t: Tally) -> Checked
     ensures { λ r. ⌜ r ≡ judged address t ⌝ }
 {
     let mut r = Checked {

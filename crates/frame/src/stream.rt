@@ -1,10 +1,28 @@
 // The stream reader: bytes fed as they come, over a state that the caller lends.
-use protocol::{DLE, ETX, MAX_CONTENT, STX};
-
+use super::Written;
+use super::buffer;
+use super::read;
+use super::read::Tally;
+use protocol::BAD_PAIR;
+use protocol::DLE;
+use protocol::DONE;
+use protocol::ETX;
+use protocol::MAX_CONTENT;
+use protocol::NO_FRAME;
+use protocol::NO_ROOM;
+use protocol::ROOM_DATA;
+use protocol::STX;
+use protocol::TOO_LONG;
+use protocol::UNSOUND;
 ghost use mathlib.Core.Path.{_≡_};
 ghost use Prim.Native.Nat.{_+_, _≤_, _<_};
-ghost use lib.ListN.{length};
-ghost use Rattle.frame.specs.Stream.{placeOf, moveOf, collectOf, pairedOf, standing, runFrom, RunIs};
+ghost use mathlib.Core.List.{_∷_, _++_};
+ghost use lib.ListN.{length, drop};
+ghost use Rattle.protocol.specs.Bytes.{half};
+ghost use Rattle.protocol.specs.Frame.{judge};
+ghost use Rattle.protocol.specs.Buffer.{Emits};
+ghost use Rattle.frame.specs.Read.{Tallies};
+ghost use Rattle.frame.specs.Stream.{placeOf, moveOf, collectOf, pairedOf, standing, runFrom, RunIs, fed, Feeds};
 
 // The length of a stream state, and where its content begins (docs/FORMATS.md).
 pub const STATE_LEN: usize = 261;
@@ -65,7 +83,10 @@ fn collect(len: usize) -> Move
     ensures { λ r. ⌜ r ≡ collectOf len ⌝ }
 {
     if len < MAX_CONTENT {
-        return Move::Keep(Place { phase: 2, len: len + 1 });
+        return Move::Keep(Place {
+            phase: 2,
+            len: len + 1,
+        });
     }
     Move::TooLong
 }
@@ -174,5 +195,106 @@ fn run_bytes(start: Place, bytes: &[u8], state: &mut [u8]) -> Run
         end: End::NoFrame,
         taken: i,
         place,
+    }
+}
+
+// The first three bytes of a state, for a place.
+fn put_place(state: &mut [u8], place: Place)
+    requires { ⌜ (3 ≤ length (now state)) × (place .len ≤ 258) ⌝ }
+    ensures { λ _. ⌜ now (state .exit) ≡ place .phase ∷ (half (place .len) ++ drop 3 (now (state .entry))) ⌝ }
+{
+    let len = place.len;
+    state[0] = place.phase;
+    state[1] = (len / 256 % 256) as u8;
+    state[2] = (len % 256) as u8;
+}
+
+// The tally of a content that lies in one piece.
+fn tally_of(content: &[u8]) -> Tally
+    ensures { λ r. ⌜ Tallies (now (content .entry)) r ⌝ }
+{
+    let mut t = Tally {
+        count: 0,
+        sum: 0,
+        first: 0,
+    };
+    let mut i = 0;
+    while i < content.len() {
+        t = read::with_byte(t, content[i]);
+        i += 1;
+    }
+    t
+}
+
+// A closed frame judged, and its data put at the front of the output where it is good.
+fn close(address: u8, content: &[u8], out: &mut [u8]) -> Written
+    requires { ⌜ (length (now content) ≤ 258) × (256 ≤ length (now out)) ⌝ }
+    ensures { λ r. ⌜ Emits (judge address (now (content .entry))) (now (out .entry)) (r .number) (r .len) (now (out .exit)) ⌝ }
+{
+    let checked = read::judge(address, tally_of(content));
+    let number = checked.number;
+    if number != DONE {
+        return Written { number, len: 0 };
+    }
+    let end = checked.len + 1;
+    let len = buffer::put_all(&content[1..end], out);
+    Written { number: DONE, len }
+}
+
+// What a call of feed returns: a number of document 01 or 255, how many bytes it took, and the length of the data that it put
+// at the front of the output.
+pub struct Fed {
+    pub number: u8,
+    pub taken: usize,
+    pub len: usize,
+}
+
+// Bytes fed to the stream reader, up to the one that closes or drops a frame: 1, 8, then what the stream rule gives.
+pub fn feed(state: &mut [u8], address: u8, bytes: &[u8], out: &mut [u8]) -> Fed
+    ensures { λ r. ⌜ Feeds (fed address (now (state .entry)) (now (bytes .entry)) (length (now (out .entry)))) (now (out .entry)) (r .number) (r .taken) (r .len) (now (state .exit)) (now (out .exit)) ⌝ }
+{
+    let Found::At(place) = place_of(state) else {
+        return Fed {
+            number: UNSOUND,
+            taken: 0,
+            len: 0,
+        };
+    };
+    if out.len() < ROOM_DATA {
+        return Fed {
+            number: NO_ROOM,
+            taken: 0,
+            len: 0,
+        };
+    }
+    let run = run_bytes(place, bytes, state);
+    put_place(state, run.place);
+    let taken = run.taken;
+    let end = run.end;
+    match end {
+        End::NoFrame => Fed {
+            number: NO_FRAME,
+            taken,
+            len: 0,
+        },
+        End::Paired => Fed {
+            number: BAD_PAIR,
+            taken,
+            len: 0,
+        },
+        End::Long => Fed {
+            number: TOO_LONG,
+            taken,
+            len: 0,
+        },
+        End::ClosedWith(n) => {
+            let last = n + 3;
+            let w = close(address, &state[3..last], out);
+            Fed {
+                number: w.number,
+                taken,
+                len: w.len,
+            }
+        }
     }
 }

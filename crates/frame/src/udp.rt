@@ -12,7 +12,7 @@ ghost use Prim.Native.Nat.{_≤_};
 ghost use lib.ListN.{length};
 ghost use Rattle.protocol.specs.Numbers.{roomUdp};
 ghost use Rattle.protocol.specs.Frame.{readDatagram, writeDatagram, fourZeros, ifRoom};
-ghost use Rattle.protocol.specs.Buffer.{Put, Emits, over};
+ghost use Rattle.protocol.specs.Buffer.{Emits, over};
 
 // Whether a datagram begins with four zero bytes.
 fn four_zeros(d: &[u8]) -> bool
@@ -64,18 +64,6 @@ pub(crate) fn put_zeros(out: &mut [u8])
     out[3] = 0;
 }
 
-// Bytes copied to the front of an output that has room for them. Returns how many.
-fn put_all(payload: &[u8], out: &mut [u8]) -> usize
-    requires { ⌜ length (now payload) ≤ length (now out) ⌝ }
-    ensures { λ r. ⌜ Put 0 (now (payload .entry)) (now (out .entry)) r (now (out .exit)) ⌝ }
-{
-    let mut i = 0;
-    while i < payload.len() {
-        i = buffer::put(out, i, payload[i]);
-    }
-    i
-}
-
 // Data in a datagram, built behind its four zero bytes: 8, 4, 5 or 0.
 pub fn write_datagram(payload: &[u8], out: &mut [u8]) -> Written
     ensures { λ r. ⌜ Emits (ifRoom roomUdp (length (now (out .entry))) (writeDatagram (now (payload .entry)))) (now (out .entry)) (r .number) (r .len) (now (out .exit)) ⌝ }
@@ -90,7 +78,7 @@ pub fn write_datagram(payload: &[u8], out: &mut [u8]) -> Written
     if number != DONE {
         return Written { number, len: 0 };
     }
-    let len = put_all(payload, &mut out[4..]);
+    let len = buffer::put_all(payload, &mut out[4..]);
     put_zeros(out);
     Written {
         number: DONE,

@@ -10,6 +10,7 @@ pub struct PropertyIndex(pub u8);
 
 // Numbers returned (document 01).
 pub const DONE: u8 = 0;
+
 pub const UNSOUND: u8 = 1;
 
 pub const NO_PREAMBLE: u8 = 2;
@@ -25,6 +26,7 @@ pub const BAD_CHECKSUM: u8 = 6;
 pub const OTHER_ADDRESS: u8 = 7;
 
 pub const NO_ROOM: u8 = 8;
+
 pub const NO_FRAME: u8 = 255;
 
 // The characters of a frame (document 003, section 2).

@@ -1,78 +1,70 @@
+-- `frame::stream::move_on` meets its contract. Assumes nothing.
 use mathlib.Core.Path.{_∙_}
 use borrow.Author.Tests.{eq-eqb, ne-eqb}
-use Rattle.frame.specs.Stream.{moveOf}
 use borrow.Author.Needs.{needs}
+use Rattle.frame.specs.Stream.{moveOf}
 use Rattle.frame.proofs.stream.move_on.Statement.{statement}
 use Rattle.frame.proofs.stream.move_on.Tie as tie
-use Rattle.frame.proofs.stream.move_on.Reads as reads
-use Rattle.frame.proofs.stream.move_on.Lts as lts
-use Rattle.frame.proofs.stream.collect.Reads as collect-reads
-use Rattle.frame.proofs.stream.paired.Reads as paired-reads
 
--- src/stream.rt:93:9
 paired-requires : tie.Need-paired-requires
 paired-requires c κs = search needs
 
--- src/stream.rt:93:9
 returns : tie.Need-returns
 unfolding moveOf
 returns c = c .paired .ensures ∙ simp (eq-eqb _ _ (c .before .if1 .taken))
 
--- src/stream.rt:97:13
 returns-2 : tie.Need-returns-2
 unfolding moveOf
 returns-2 c = simp (ne-eqb _ _ (c .before .before .if1 .left), eq-eqb _ _ (c .before .if2 .taken), eq-eqb _ _ (c .if3 .taken))
 
--- src/stream.rt:99:9
 collect-requires : tie.Need-collect-requires
 collect-requires c κs = search needs
 
--- src/stream.rt:99:9
 returns-3 : tie.Need-returns-3
 unfolding moveOf
-returns-3 c = 
+returns-3 c =
     c .collect .ensures
     ∙ simp (ne-eqb _ _ (c .before .before .before .if1 .left), eq-eqb _ _ (c .before .before .if2 .taken), ne-eqb _ _ (c .before .if3 .left))
 
--- src/stream.rt:103:13
 returns-4 : tie.Need-returns-4
 unfolding moveOf
-returns-4 c = 
-    simp
-    (ne-eqb _ _ (c .before .before .before .if1 .left),
-    ne-eqb _ _ (c .before .before .if2 .left),
-    eq-eqb _ _ (c .before .if4 .taken),
-    eq-eqb _ _ (c .if5 .taken))
+returns-4 c =
+    simp (
+      ne-eqb _ _ (c .before .before .before .if1 .left),
+      ne-eqb _ _ (c .before .before .if2 .left),
+      eq-eqb _ _ (c .before .if4 .taken),
+      eq-eqb _ _ (c .if5 .taken),
+    )
 
--- src/stream.rt:105:9
 returns-5 : tie.Need-returns-5
 unfolding moveOf
-returns-5 c = 
-    simp
-    (ne-eqb _ _ (c .before .before .before .if1 .left),
-    ne-eqb _ _ (c .before .before .if2 .left),
-    eq-eqb _ _ (c .before .if4 .taken),
-    ne-eqb _ _ (c .if5 .left))
+returns-5 c =
+    simp (
+      ne-eqb _ _ (c .before .before .before .if1 .left),
+      ne-eqb _ _ (c .before .before .if2 .left),
+      eq-eqb _ _ (c .before .if4 .taken),
+      ne-eqb _ _ (c .if5 .left),
+    )
 
--- src/stream.rt:108:9
 returns-6 : tie.Need-returns-6
 unfolding moveOf
-returns-6 c = 
-    simp
-    (ne-eqb _ _ (c .before .before .before .if1 .left),
-    ne-eqb _ _ (c .before .before .if2 .left),
-    ne-eqb _ _ (c .before .if4 .left),
-    eq-eqb _ _ (c .if6 .taken))
+returns-6 c =
+    simp (
+      ne-eqb _ _ (c .before .before .before .if1 .left),
+      ne-eqb _ _ (c .before .before .if2 .left),
+      ne-eqb _ _ (c .before .if4 .left),
+      eq-eqb _ _ (c .if6 .taken),
+    )
 
--- src/stream.rt:87:1
 returns-7 : tie.Need-returns-7
 unfolding moveOf
-returns-7 c = 
-    simp
-    (ne-eqb _ _ (c .before .before .before .if1 .left),
-    ne-eqb _ _ (c .before .before .if2 .left),
-    ne-eqb _ _ (c .before .if4 .left),
-    ne-eqb _ _ (c .if6 .left))
+returns-7 c =
+    simp (
+      ne-eqb _ _ (c .before .before .before .if1 .left),
+      ne-eqb _ _ (c .before .before .if2 .left),
+      ne-eqb _ _ (c .before .if4 .left),
+      ne-eqb _ _ (c .if6 .left),
+    )
 
 pub move-on-spec : {M : Type 1} → statement M
 move-on-spec =

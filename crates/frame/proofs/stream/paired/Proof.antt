@@ -1,33 +1,26 @@
+-- `frame::stream::paired` meets its contract. Assumes nothing.
 use mathlib.Core.Path.{_∙_}
 use borrow.Author.Tests.{eq-eqb, ne-eqb}
-use Rattle.frame.specs.Stream.{pairedOf}
 use borrow.Author.Needs.{needs}
+use Rattle.frame.specs.Stream.{pairedOf}
 use Rattle.frame.proofs.stream.paired.Statement.{statement}
 use Rattle.frame.proofs.stream.paired.Tie as tie
-use Rattle.frame.proofs.stream.paired.Reads as reads
-use Rattle.frame.proofs.stream.paired.Lts as lts
-use Rattle.frame.proofs.stream.collect.Reads as collect-reads
 
--- src/stream.rt:75:9
 collect-requires : tie.Need-collect-requires
 collect-requires c κs = search needs
 
--- src/stream.rt:75:9
 returns : tie.Need-returns
 unfolding pairedOf
 returns c = c .collect .ensures ∙ simp (eq-eqb _ _ (c .before .if1 .taken))
 
--- src/stream.rt:78:9
 returns-2 : tie.Need-returns-2
 unfolding pairedOf
 returns-2 c = simp (ne-eqb _ _ (c .before .if1 .left), eq-eqb _ _ (c .if2 .taken))
 
--- src/stream.rt:81:9
 returns-3 : tie.Need-returns-3
 unfolding pairedOf
 returns-3 c = simp (ne-eqb _ _ (c .before .before .if1 .left), ne-eqb _ _ (c .before .if2 .left), eq-eqb _ _ (c .if3 .taken))
 
--- src/stream.rt:71:1
 returns-4 : tie.Need-returns-4
 unfolding pairedOf
 returns-4 c = simp (ne-eqb _ _ (c .before .before .if1 .left), ne-eqb _ _ (c .before .if2 .left), ne-eqb _ _ (c .if3 .left))

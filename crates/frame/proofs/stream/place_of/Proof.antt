@@ -1,78 +1,64 @@
+-- `frame::stream::place_of` meets its contract. Assumes nothing.
 use Prim.Native.Nat.{_+_, _*_}
 use native.Mathlib.Omega.{arith}
 use mathlib.Core.Path.{_≡_, ap₂}
+use borrow.Author.Needs.{needs}
 use Rattle.frame.specs.Stream.{lengthIn}
 use Rattle.frame.proofs.PlaceLaws.{other-length, other-phase, too-much, standing-inside, standing-outside, content-outside}
-use borrow.Author.Needs.{needs}
 use Rattle.frame.proofs.stream.place_of.Statement.{statement}
 use Rattle.frame.proofs.stream.place_of.Tie as tie
-use Rattle.frame.proofs.stream.place_of.Reads as reads
-use Rattle.frame.proofs.stream.place_of.Lts as lts
-use Rattle.frame.proofs.stream.wide.Reads as wide-reads
 
 -- The length of the content, as the form has it.
 read : (c : tie.After-wide2)
-  → c .before .before .wide .result * 256 + c .wide2 .result
-  ≡ lengthIn (c .before .before .before .before .before .before .before .args .state .now)
+    → c .before .before .wide .result * 256 + c .wide2 .result
+    ≡ lengthIn (c .before .before .before .before .before .before .before .args .state .now)
 read c = ap₂ (λ x y. x * 256 + y) (c .before .before .wide .ensures) (c .wide2 .ensures)
 
--- src/stream.rt:35:9
 returns : tie.Need-returns
 returns c = other-length (c .before .before .args .state .now) (c .if1 .taken)
 
--- src/stream.rt:37:17
 shared-slice-read-phase : tie.Need-shared-slice-read-phase
 shared-slice-read-phase c = search needs
 
--- src/stream.rt:38:20
 shared-slice-read-wide : tie.Need-shared-slice-read-wide
 shared-slice-read-wide c = search needs
 
--- src/stream.rt:38:15
 wide-requires : tie.Need-wide-requires
 wide-requires c κs = search needs
 
--- src/stream.rt:38:15
 mul-len : tie.Need-mul-len
 mul-len c = omega (arith, c .wide .ensures, c .before .shared-slice-known3 .given 1)
 
--- src/stream.rt:38:43
 shared-slice-read-wide-2 : tie.Need-shared-slice-read-wide-2
 shared-slice-read-wide-2 c = search needs
 
--- src/stream.rt:38:38
 wide-requires-2 : tie.Need-wide-requires-2
 wide-requires-2 c κs = search needs
 
--- src/stream.rt:38:15
 add-len : tie.Need-add-len
 add-len c = omega (arith, c .wide2 .ensures, c .before .before .wide .ensures, c .before .before .before .shared-slice-known3 .given 1, c .before .shared-slice-known4 .given 2)
 
--- src/stream.rt:40:9
 returns-2 : tie.Need-returns-2
-returns-2 c = 
+returns-2 c =
     let else1 = c .before .before .before .before .before .before in
     other-phase (else1 .before .before .args .state .now) (else1 .if1 .left) (c .if2 .taken)
 
--- src/stream.rt:43:9
 returns-3 : tie.Need-returns-3
-returns-3 c = 
+returns-3 c =
     let wide = c .before .before in
     let else1 = wide .before .before .before .before .before in
     too-much (else1 .before .before .args .state .now) (else1 .if1 .left) (c .before .if2 .left) (read wide) (c .if3 .taken)
 
--- src/stream.rt:46:9
 returns-4 : tie.Need-returns-4
-returns-4 c = 
+returns-4 c =
     let else3 = c .before in
     let wide = else3 .before .before in
     let else1 = wide .before .before .before .before .before in
     standing-inside (else1 .before .before .args .state .now) (else1 .if1 .left) (else3 .before .if2 .left) (read wide) (else3 .if3 .left)
     (c .if4 .taken)
 
--- src/stream.rt:49:9
 returns-5 : tie.Need-returns-5
-returns-5 c = 
+returns-5 c =
     let else4 = c .before in
     let else3 = else4 .before in
     let wide = else3 .before .before in
@@ -80,9 +66,8 @@ returns-5 c =
     standing-outside (else1 .before .before .args .state .now) (else1 .if1 .left) (else3 .before .if2 .left) (read wide) (else3 .if3 .left)
     (else4 .if4 .left) (c .if5 .taken)
 
--- src/stream.rt:31:1
 returns-6 : tie.Need-returns-6
-returns-6 c = 
+returns-6 c =
     let else4 = c .before in
     let else3 = else4 .before in
     let wide = else3 .before .before in

@@ -1,14 +1,12 @@
+-- `frame::stream::run_bytes` meets its contract. Assumes nothing.
 use Prim.Native.Nat.{_+_, _-_, _<_}
 use native.Mathlib.Omega.{arith}
 use mathlib.Core.Path.{_≡_, sym, _∙_}
-use lib.ListN.{length}
 use borrow.Author.Needs.{needs}
+use lib.ListN.{length}
 use Rattle.frame.proofs.FeedLaws.{Running, run-begins, goes-on, fits, keeps, closes, drops-pair, drops-long, all-taken, placed-formed, form-of}
 use Rattle.frame.proofs.stream.run_bytes.Statement.{statement}
 use Rattle.frame.proofs.stream.run_bytes.Tie as tie
-use Rattle.frame.proofs.stream.run_bytes.Reads as reads
-use Rattle.frame.proofs.stream.run_bytes.Lts as lts
-use Rattle.frame.proofs.stream.move_on.Reads as move-on-reads
 
 abbrev Inv-loop : tie.InvT-loop
 Inv-loop bytes state₀ place₀ i₀ state place i = Running state₀ bytes place state i
@@ -22,35 +20,28 @@ same-at c =
     let start = c .before .before .before in
     c .loop .inv .placed .size ∙ sym (form-of (start .args .state .now) (placed-formed (start .args .state .now) (start .pre) .0) .size)
 
--- src/stream.rt:138:5
 loop-holds : tie.Need-loop-holds Inv-loop μ-loop
-loop-holds c = 
+loop-holds c =
     let start = c .before .before in
     run-begins (start .args .state .now) (start .args .bytes .now) (start .pre) (λ i. omega (arith, c .slice-known .given i))
 
--- src/stream.rt:139:17
 shared-slice-read-b : tie.Need-shared-slice-read-b Inv-loop μ-loop
 shared-slice-read-b c = omega arith
 
--- src/stream.rt:140:9
 add-i : tie.Need-add-i Inv-loop μ-loop
 add-i c = omega arith
 
--- src/stream.rt:141:15
 move-on-requires : tie.Need-move-on-requires Inv-loop μ-loop
 move-on-requires c κs = search needs
 
--- src/stream.rt:142:22
 enum-known-next : tie.Need-enum-known-next Inv-loop μ-loop
 enum-known-next c = search needs
 
--- src/stream.rt:138:5
 loop-less : tie.Need-loop-less Inv-loop μ-loop
 loop-less c = omega arith
 
--- src/stream.rt:138:5
 loop-again : tie.Need-loop-again Inv-loop μ-loop
-loop-again c = 
+loop-again c =
     let told = c .before in
     let m = told .before .before in
     let in-loop = m .before .before in
@@ -58,15 +49,12 @@ loop-again c =
     goes-on (start .args .state .now) (start .args .bytes .now) (in-loop .before .loop .inv) (in-loop .loop-test .taken)
     (sym (told .next .given .1) ∙ m .move-on .ensures)
 
--- src/stream.rt:145:24
 enum-known-next-2 : tie.Need-enum-known-next-2 Inv-loop μ-loop
 enum-known-next-2 c = search needs
 
--- src/stream.rt:146:26
 add-at : tie.Need-add-at Inv-loop μ-loop
 add-at c = omega (arith, c .before .before .before .before .before .before .before .loop .inv .placed .most)
 
--- src/stream.rt:147:17
 slice-write-state : tie.Need-slice-write-state Inv-loop μ-loop
 slice-write-state c =
     let told = c .before .before in
@@ -76,11 +64,9 @@ slice-write-state c =
     fits (start .args .state .now) (start .args .bytes .now) (in-loop .before .loop .inv) (in-loop .loop-test .taken)
     (sym (told .next2 .given .1) ∙ m .move-on .ensures)
 
--- src/stream.rt:138:5
 loop-less-2 : tie.Need-loop-less-2 Inv-loop μ-loop
 loop-less-2 c = omega arith
 
--- src/stream.rt:138:5
 loop-again-2 : tie.Need-loop-again-2 Inv-loop μ-loop
 loop-again-2 c =
     let told = c .before .before in
@@ -90,64 +76,53 @@ loop-again-2 c =
     keeps (start .args .state .now) (start .args .bytes .now) (in-loop .before .loop .inv) (in-loop .loop-test .taken)
     (sym (told .next2 .given .1) ∙ m .move-on .ensures)
 
--- src/stream.rt:152:26
 enum-told : tie.Need-enum-told Inv-loop μ-loop
 enum-told c = search needs
 
--- src/stream.rt:151:17
 same-length : tie.Need-same-length Inv-loop μ-loop
 same-length c = same-at (c .before .before .before .before .before)
 
--- src/stream.rt:151:17
 returns : tie.Need-returns Inv-loop μ-loop
-returns c = 
+returns c =
     let m = c .before .before in
     let in-loop = m .before .before in
     let start = in-loop .before .before .before .before in
     closes (start .args .state .now) (start .args .bytes .now) (in-loop .before .loop .inv) (in-loop .loop-test .taken)
     (sym (c .enum-told .given .1) ∙ m .move-on .ensures)
 
--- src/stream.rt:159:26
 enum-told-2 : tie.Need-enum-told-2 Inv-loop μ-loop
 enum-told-2 c = search needs
 
--- src/stream.rt:158:17
 same-length-2 : tie.Need-same-length-2 Inv-loop μ-loop
 same-length-2 c = same-at (c .before .before .before .before .before)
 
--- src/stream.rt:158:17
 returns-2 : tie.Need-returns-2 Inv-loop μ-loop
-returns-2 c = 
+returns-2 c =
     let m = c .before .before in
     let in-loop = m .before .before in
     let start = in-loop .before .before .before .before in
     drops-pair (start .args .state .now) (start .args .bytes .now) (in-loop .before .loop .inv) (in-loop .loop-test .taken)
     (sym (c .enum-told2 .given .1) ∙ m .move-on .ensures)
 
--- src/stream.rt:166:26
 enum-told-3 : tie.Need-enum-told-3 Inv-loop μ-loop
 enum-told-3 c = search needs
 
--- src/stream.rt:165:17
 same-length-3 : tie.Need-same-length-3 Inv-loop μ-loop
 same-length-3 c = same-at (c .before .before .before .before .before)
 
--- src/stream.rt:165:17
 returns-3 : tie.Need-returns-3 Inv-loop μ-loop
-returns-3 c = 
+returns-3 c =
     let m = c .before .before in
     let in-loop = m .before .before in
     let start = in-loop .before .before .before .before in
     drops-long (start .args .state .now) (start .args .bytes .now) (in-loop .before .loop .inv) (in-loop .loop-test .taken)
     (sym (c .enum-told3 .given .1) ∙ m .move-on .ensures)
 
--- src/stream.rt:132:1
 same-length-4 : tie.Need-same-length-4 Inv-loop μ-loop
 same-length-4 c = same-at (c .before)
 
--- src/stream.rt:132:1
 returns-4 : tie.Need-returns-4 Inv-loop μ-loop
-returns-4 c = 
+returns-4 c =
     let start = c .before .before .before .before in
     all-taken (start .args .state .now) (start .args .bytes .now) (c .before .loop .inv) (c .loop-test .left)
 

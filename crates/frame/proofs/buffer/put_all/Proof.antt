@@ -1,11 +1,11 @@
--- `frame::udp::put_all` meets its contract. Assumes nothing.
+-- `frame::buffer::put_all` meets its contract. Assumes nothing.
 use Prim.Native.Nat.{_-_}
 use native.Mathlib.Omega.{arith}
 use mathlib.Core.Path.{_≡_}
 use lib.ListN.{length}
 use Rattle.frame.proofs.UdpLaws.{Filling, fill-begins, fill-more, fill-same, fill-ends}
-use Rattle.frame.proofs.udp.put_all.Statement.{statement}
-use Rattle.frame.proofs.udp.put_all.Tie as tie
+use Rattle.frame.proofs.buffer.put_all.Statement.{statement}
+use Rattle.frame.proofs.buffer.put_all.Tie as tie
 
 abbrev Inv-loop : tie.InvT-loop
 Inv-loop payload out₀ i₀ out i = Filling payload out₀ out i

@@ -1,0 +1,190 @@
+-- `frame::stream::feed` meets its contract. Assumes nothing.
+use Prim.Native.Nat.{_+_, _-_, _≤_}
+use native.Mathlib.Omega.{arith}
+use mathlib.Core.Path.{_≡_, sym, _∙_}
+use borrow.Author.Needs.{needs}
+use lib.ListN.{drop, length-take}
+use Rattle.frame.specs.declared.stream.Found.the-variants.{At}
+use Rattle.frame.specs.Stream.{placeOf}
+use Rattle.frame.proofs.CallLaws.{feeds-formless, feeds-no-room, feeds-run, state-written, state-length, state-content, emits-none, emits-pair, emits-long, closed-content, emits-closed}
+use Rattle.frame.proofs.stream.feed.Statement.{statement}
+use Rattle.frame.proofs.stream.feed.Tie as tie
+
+-- The function's entry, and where its state says that the reader stands, behind the test on the room.
+abbrev start-of : tie.Else1 → tie.Start
+start-of c = c .before .before .before .before .before .before .before .before .before
+
+at : (c : tie.Else1) → placeOf (start-of c .args .state .now) ≡ At (c .before .before .place .given .0 .0)
+at c = sym (c .before .before .before .before .place-of .ensures) ∙ c .before .before .place .given .1
+
+-- A closed frame has at most 258 content bytes.
+few : (c : tie.After-end) → c .end .given .0 .0 ≤ 258
+few c =
+    let run = c .before .before .before .before .before .before .before .before in
+    closed-content (run .run-bytes .ensures) (c .end .given .1) .3
+
+place-of-requires : tie.Need-place-of-requires
+place-of-requires c κs = search needs
+
+enum-known-place : tie.Need-enum-known-place
+enum-known-place c = search needs
+
+enum-told : tie.Need-enum-told
+enum-told c = search needs
+
+same-length : tie.Need-same-length
+same-length c = search needs
+
+returns : tie.Need-returns
+returns c =
+    let found = c .before .before in
+    let start = found .before .before .before .before .before in
+    feeds-formless (start .args .address) (start .args .state .now) (start .args .bytes .now) (start .args .out .now) (sym (found .place-of .ensures) ∙ c .enum-told .given .1)
+
+same-length-2 : tie.Need-same-length-2
+same-length-2 c = search needs
+
+returns-2 : tie.Need-returns-2
+returns-2 c =
+    let told = c .before .before in
+    let found = told .before .before in
+    let start = found .before .before .before .before .before in
+    feeds-no-room (start .args .address) (start .args .state .now) (start .args .bytes .now) (start .args .out .now) (sym (found .place-of .ensures) ∙ told .place .given .1) (c .if1 .taken)
+
+run-bytes-requires : tie.Need-run-bytes-requires
+run-bytes-requires c κs = at (c .before)
+
+put-place-requires : tie.Need-put-place-requires
+put-place-requires c κs = search needs
+
+enum-told-2 : tie.Need-enum-told-2
+enum-told-2 c = search needs
+
+enum-told-3 : tie.Need-enum-told-3
+enum-told-3 c = search needs
+
+enum-told-4 : tie.Need-enum-told-4
+enum-told-4 c = search needs
+
+enum-known-end : tie.Need-enum-known-end
+enum-known-end c = search needs
+
+add-last : tie.Need-add-last
+add-last c = omega (arith, few (c .before))
+
+sub-close : tie.Need-sub-close
+sub-close c = search needs
+
+part-close-start : tie.Need-part-close-start
+part-close-start c = search needs
+
+part-close-end : tie.Need-part-close-end
+part-close-end c =
+    let end = c .before .before in
+    let put = end .before .before .before .before in
+    let run = put .before .before .before .before in
+    omega (arith, few end, state-length (run .run-bytes .ensures) (put .put-place .ensures))
+
+close-requires : tie.Need-close-requires
+close-requires c κs =
+    let end = c .before .before .before .before in
+    let put = end .before .before .before .before in
+    let run = put .before .before .before .before in
+    let n = end .end .given .0 .0 in
+    (omega (arith, few end, length-take (n + 3 - 3) (drop 3 (put .put-place .last .0))), run .before .before .if1 .left)
+
+same-length-3 : tie.Need-same-length-3
+same-length-3 c = search needs
+
+returns-3 : tie.Need-returns-3
+returns-3 c =
+    let put = c .before .before .before .before in
+    let run = put .before .before .before .before in
+    let else1 = run .before .before in
+    let start = start-of else1 in
+    let w = run .run-bytes .ensures in
+    feeds-run (start .args .address) (start .args .state .now) (start .args .bytes .now) (start .args .out .now) (at else1) (else1 .if1 .left)
+    (emits-none w (start .args .address) (start .args .out .now) (c .enum-told2 .given .1))
+    (w .taken)
+    (state-written w (put .put-place .ensures))
+
+same-length-4 : tie.Need-same-length-4
+same-length-4 c = search needs
+
+returns-4 : tie.Need-returns-4
+returns-4 c =
+    let put = c .before .before .before .before in
+    let run = put .before .before .before .before in
+    let else1 = run .before .before in
+    let start = start-of else1 in
+    let w = run .run-bytes .ensures in
+    feeds-run (start .args .address) (start .args .state .now) (start .args .bytes .now) (start .args .out .now) (at else1) (else1 .if1 .left)
+    (emits-pair w (start .args .address) (start .args .out .now) (c .enum-told3 .given .1))
+    (w .taken)
+    (state-written w (put .put-place .ensures))
+
+same-length-5 : tie.Need-same-length-5
+same-length-5 c = search needs
+
+returns-5 : tie.Need-returns-5
+returns-5 c =
+    let put = c .before .before .before .before in
+    let run = put .before .before .before .before in
+    let else1 = run .before .before in
+    let start = start-of else1 in
+    let w = run .run-bytes .ensures in
+    feeds-run (start .args .address) (start .args .state .now) (start .args .bytes .now) (start .args .out .now) (at else1) (else1 .if1 .left)
+    (emits-long w (start .args .address) (start .args .out .now) (c .enum-told4 .given .1))
+    (w .taken)
+    (state-written w (put .put-place .ensures))
+
+same-length-6 : tie.Need-same-length-6
+same-length-6 c = search needs
+
+same-length-7 : tie.Need-same-length-7
+same-length-7 c = search needs
+
+returns-6 : tie.Need-returns-6
+returns-6 c =
+    let end = c .before .before .before .before .before .before .before in
+    let put = end .before .before .before .before in
+    let run = put .before .before .before .before in
+    let else1 = run .before .before in
+    let start = start-of else1 in
+    let w = run .run-bytes .ensures in
+    feeds-run (start .args .address) (start .args .state .now) (start .args .bytes .now) (start .args .out .now) (at else1) (else1 .if1 .left)
+    (emits-closed w (start .args .address) (end .end .given .1) (put .put-place .ensures) (c .before .before .close .ensures))
+    (w .taken)
+    (state-written w (put .put-place .ensures))
+
+pub feed-spec : {M : Type 1} → statement M
+feed-spec =
+    tie.close
+    (tie.spec
+    place-of-requires
+    enum-known-place
+    enum-told
+    same-length
+    returns
+    same-length-2
+    returns-2
+    run-bytes-requires
+    put-place-requires
+    enum-told-2
+    enum-told-3
+    enum-told-4
+    enum-known-end
+    add-last
+    sub-close
+    part-close-start
+    part-close-end
+    close-requires
+    same-length-3
+    returns-3
+    same-length-4
+    returns-4
+    same-length-5
+    returns-5
+    same-length-6
+    same-length-7
+    returns-6)
