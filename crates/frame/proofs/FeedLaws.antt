@@ -27,10 +27,10 @@ use Rattle.frame.specs.declared.stream.Move.the-variants.{On, Keep, Clos
 use Rattle.frame.specs.Stream.{stateLength, phaseOf, contentIn, formOf, keep, phaseIn, lengthIn, hasForm, streamWith, standing, placeOf, place, collectOf, pairedOf, moveOf, Ran, one-more, ended, next, runFrom, endOf, RunIs}
 
 -- The form, as bytes in front of the rest.
-abbrev head : Stream → List ℕ → List ℕ
+abbrev pub head : Stream → List ℕ → List ℕ
 head s rest = phaseOf s ∷ (half (length (contentIn s)) ++ rest)
 
-keep-is : (s : Stream) (st : List ℕ) → keep s st ≡ head s (contentIn s ++ drop (length (contentIn s)) (drop 3 st))
+pub keep-is : (s : Stream) (st : List ℕ) → keep s st ≡ head s (contentIn s ++ drop (length (contentIn s)) (drop 3 st))
 unfolding over formOf half
 keep-is s st =
     let n : ℕ = length (contentIn s) in
@@ -139,7 +139,7 @@ moved (inside true c) b = paired-moved c b
 abbrev plus : ℕ → Ran → Ran
 plus i r = record { event = r .event; taken = i + r .taken; after = r .after; bytes = r .bytes }
 
-run-cons : (s : Stream) (st : List ℕ) (b : ℕ) (bs : List ℕ)
+pub run-cons : (s : Stream) (st : List ℕ) (b : ℕ) (bs : List ℕ)
     → runFrom s st (b ∷ bs)
     ≡ next (step s b .event) (step s b .after) (keep (step s b .after) st) (runFrom (step s b .after) (keep (step s b .after) st) bs)
 unfolding runFrom
@@ -153,13 +153,13 @@ run-on s st b bs e =
     ∙ ap (λ x. next x (step s b .after) (keep (step s b .after) st) (runFrom (step s b .after) (keep (step s b .after) st) bs)) e
 
 -- Events that close no frame, and the content of one that does.
-abbrev closesOne : Event → Bool
+abbrev pub closesOne : Event → Bool
 closesOne rule.nothing = false
 closesOne (rule.closed c) = true
 closesOne rule.droppedPair = false
 closesOne rule.droppedLong = false
 
-not-closed : (e : Event) (c : List ℕ) → closesOne e ≡ false → e ≡ rule.closed c → ⊥
+pub not-closed : (e : Event) (c : List ℕ) → closesOne e ≡ false → e ≡ rule.closed c → ⊥
 not-closed e c f h = false≢true (sym f ∙ ap closesOne h)
 
 closed-same : {c d : List ℕ} → rule.closed d ≡ rule.closed c → c ≡ d
@@ -345,7 +345,7 @@ form-of st h =
     }
 
 -- The stream of a phase and a content has that phase, and outside no content.
-phase-with : (n : ℕ) (c : List ℕ) → n ≤ 3 → phaseOf (streamWith n c) ≡ n
+pub phase-with : (n : ℕ) (c : List ℕ) → n ≤ 3 → phaseOf (streamWith n c) ≡ n
 unfolding streamWith
 phase-with zero c h = refl
 phase-with (suc zero) c h = refl

@@ -8,3 +8,4 @@ pub mod PlaceLaws
 pub mod FeedLaws
 pub mod CloseLaws
 pub mod CallLaws
+pub mod DeliveryLaws

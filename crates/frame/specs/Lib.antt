@@ -2,3 +2,4 @@
 pub mod Body
 pub mod Read
 pub mod Stream
+pub mod Delivery

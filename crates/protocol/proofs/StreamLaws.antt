@@ -332,7 +332,7 @@ collect-open c b = go (ltb (length c) maxContent)
     go false = refl
 
 -- The byte that closes a frame: a 10h waited inside, the byte is 03, and the content is what was collected.
-closing : (s : Stream) (b : ℕ) (c : List ℕ) → step s b .event ≡ closed c → (s ≡ inside true c) × (b ≡ ETX)
+pub closing : (s : Stream) (b : ℕ) (c : List ℕ) → step s b .event ≡ closed c → (s ≡ inside true c) × (b ≡ ETX)
 unfolding step
 closing (outside false) b c h = absurd (not-closing nothing c refl h)
 closing (outside true) b c h = absurd (not-closing nothing c refl h)
