@@ -51,7 +51,7 @@ phase-low (inside false c) = omega arith
 phase-low (inside true c) = omega arith
 
 has-form : (st : List ℕ) → length st ≡ stateLength → phaseIn st ≤ 3 → lengthIn st ≤ maxContent
-  → (leb 2 (phaseIn st) || eqb (lengthIn st) 0) ≡ true → hasForm st ≡ true
+    → (leb 2 (phaseIn st) || eqb (lengthIn st) 0) ≡ true → hasForm st ≡ true
 unfolding hasForm
 has-form st a b c d =
     and-both (eq-eqb (length st) stateLength a)
@@ -66,7 +66,7 @@ unfolding half
 size-head s rest h = omega (arith, h)
 
 content-head : (s : Stream) (tail : List ℕ) → lengthIn (head s (contentIn s ++ tail)) ≡ length (contentIn s)
-  → take (lengthIn (head s (contentIn s ++ tail))) (drop 3 (head s (contentIn s ++ tail))) ≡ contentIn s
+    → take (lengthIn (head s (contentIn s ++ tail))) (drop 3 (head s (contentIn s ++ tail))) ≡ contentIn s
 unfolding half
 content-head s tail e =
     ap (λ n. take n (contentIn s ++ tail)) e ∙ take-at (contentIn s) tail (length (contentIn s)) refl
@@ -79,14 +79,14 @@ stood s st l h =
     let rest : List ℕ = contentIn s ++ tail in
     let len : lengthIn (head s rest) ≡ n = length-head s rest h in
     let all : length rest ≡ maxContent =
-          omega (arith, length-append (contentIn s) tail, length-drop n (drop 3 st), length-drop 3 st, l, h) in
+    omega (arith, length-append (contentIn s) tail, length-drop n (drop 3 st), length-drop 3 st, l, h) in
     rw (keep-is s st)
     (record {
       size = size-head s rest all;
       few = h;
       form =
-        has-form (head s rest) (size-head s rest all) (phase-low s) (omega (arith, len, h)) (inside-or-empty s len);
-      is = ap (streamWith (phaseOf s)) (content-head s tail len) ∙ with-own s
+          has-form (head s rest) (size-head s rest all) (phase-low s) (omega (arith, len, h)) (inside-or-empty s len);
+      is = ap (streamWith (phaseOf s)) (content-head s tail len) ∙ with-own s;
     })
 
 -- A stream begins in a state of zeros.
@@ -151,11 +151,11 @@ follows-none s st w =
       handed = λ a n. refl;
       bytes = refl;
       stands = w;
-      closed = λ c e. absurd (not-closed rule.nothing c refl e)
+      closed = λ c e. absurd (not-closed rule.nothing c refl e);
     }
 
 follows-end : (s : Stream) (st : List ℕ) (b : ℕ) (bs : List ℕ) (e : Event) → step s b .event ≡ e → Stood (step s b .after) (keep (step s b .after) st)
-  → Follows s st (b ∷ bs) (ended e (step s b .after) (keep (step s b .after) st))
+    → Follows s st (b ∷ bs) (ended e (step s b .after) (keep (step s b .after) st))
 unfolding rule.after handedUpFrom settled
 follows-end s st b bs e h w =
     record {
@@ -164,30 +164,30 @@ follows-end s st b bs e h w =
       handed = λ a n. append-nil (handUp a (suc n) (step s b .event)) ∙ ap₂ (handUp a) (sym (add-one n)) h;
       bytes = refl;
       stands = w;
-      closed = λ c q. record { init = []; byte = b; split = refl; closing = h ∙ q }
+      closed = λ c q. record { init = []; byte = b; split = refl; closing = h ∙ q };
     }
 
 follows-more : (s : Stream) (st : List ℕ) (b : ℕ) (bs : List ℕ) (r : Ran) → step s b .event ≡ rule.nothing
-  → Follows (step s b .after) (keep (step s b .after) st) bs r → Follows s st (b ∷ bs) (one-more r)
+    → Follows (step s b .after) (keep (step s b .after) st) bs r → Follows s st (b ∷ bs) (one-more r)
 unfolding rule.after handedUpFrom handUp settled
 follows-more s st b bs r h f =
     record {
       fits = omega (arith, f .fits);
       after = f .after;
       handed = λ a n.
-        ap (λ x. handUp a (suc n) x ++ handedUpFrom a (step s b .after) (suc n) (take (r .taken) bs)) h
-        ∙ f .handed a (suc n)
-        ∙ ap (λ m. handUp a m (r .event)) (suc-add n (r .taken) ∙ sym (add-suc n (r .taken)));
+          ap (λ x. handUp a (suc n) x ++ handedUpFrom a (step s b .after) (suc n) (take (r .taken) bs)) h
+          ∙ f .handed a (suc n)
+          ∙ ap (λ m. handUp a m (r .event)) (suc-add n (r .taken) ∙ sym (add-suc n (r .taken)));
       bytes = f .bytes;
       stands = f .stands;
       closed = λ c q.
-        let k : ClosedBy (step s b .after) (take (r .taken) bs) c = f .closed c q in
-        record { init = b ∷ k .init; byte = k .byte; split = ap (λ l. b ∷ l) (k .split); closing = k .closing }
+          let k : ClosedBy (step s b .after) (take (r .taken) bs) c = f .closed c q in
+          record { init = b ∷ k .init; byte = k .byte; split = ap (λ l. b ∷ l) (k .split); closing = k .closing };
     }
 
 follows-next : (s : Stream) (st : List ℕ) (b : ℕ) (bs : List ℕ) (r : Ran) → Stood (step s b .after) (keep (step s b .after) st)
-  → Follows (step s b .after) (keep (step s b .after) st) bs r
-  → (e : Event) → step s b .event ≡ e → Follows s st (b ∷ bs) (next e (step s b .after) (keep (step s b .after) st) r)
+    → Follows (step s b .after) (keep (step s b .after) st) bs r
+    → (e : Event) → step s b .event ≡ e → Follows s st (b ∷ bs) (next e (step s b .after) (keep (step s b .after) st) r)
 unfolding next
 follows-next s st b bs r w f rule.nothing h = follows-more s st b bs r h f
 follows-next s st b bs r w f (rule.closed c) h = follows-end s st b bs (rule.closed c) h w
@@ -207,7 +207,7 @@ follows (b ∷ bs) s st w =
 pub data Called (a : ℕ) (s : Stream) (st : List ℕ) (d : Delivery) : Type 0 where
   no-room : d .number ≡ noRoom → d .taken ≡ 0 → d .state ≡ st → Called a s st d
   ran : (r : Ran) → Follows s st (d .bytes) r → d .number ≡ outcome a (r .event) .number → d .taken ≡ r .taken
-    → take (d .len) (d .out) ≡ outcome a (r .event) .payload → d .state ≡ r .bytes → Called a s st d
+      → take (d .len) (d .out) ≡ outcome a (r .event) .payload → d .state ≡ r .bytes → Called a s st d
 
 front : (x old : List ℕ) {n : ℕ} {new : List ℕ} → n ≡ length x → new ≡ over x old → take n new ≡ x
 unfolding over
@@ -219,8 +219,10 @@ called a s st d w m = go (ltb (length (d .lent)) roomData) refl
   where
     r : Ran
     r = runFrom (standing st) st (d .bytes)
+
     f : Follows s st (d .bytes) r
     f = subst (λ x. Follows s st (d .bytes) (runFrom x st (d .bytes))) (sym (w .is)) (follows (d .bytes) s st w)
+
     go : (t : Bool) → ltb (length (d .lent)) roomData ≡ t → Called a s st d
     go true e =
         let what : fed a st (d .bytes) (length (d .lent)) ≡ takesNone noRoom st = rw (w .form, e) in
@@ -265,15 +267,15 @@ gives-nothing a s st d w n t e =
     record {
       count = ap length none-taken ∙ sym t;
       handed = λ k.
-        ap (λ x. cond (silent x) [] (entry k d ∷ [])) n ∙ sym (ap (handedUpFrom a s k) none-taken);
+          ap (λ x. cond (silent x) [] (entry k d ∷ [])) n ∙ sym (ap (handedUpFrom a s k) none-taken);
       stands = rw (ap (rule.after s) none-taken, e) w;
       bytes = e ∙ sym (ap (settled s st) none-taken);
-      heard = λ q. omega (arith, n, q)
+      heard = λ q. omega (arith, n, q);
     }
 
 -- What an event hands up is what the call returned.
 handed-event : (a : ℕ) (d : Delivery) (n : ℕ) (e : Event) → d .number ≡ outcome a e .number → take (d .len) (d .out) ≡ outcome a e .payload
-  → cond (silent (d .number)) [] (entry n d ∷ []) ≡ handUp a (n + d .taken) e
+    → cond (silent (d .number)) [] (entry n d ∷ []) ≡ handUp a (n + d .taken) e
 unfolding outcome handUp
 handed-event a d n rule.nothing p q = ap (λ x. cond (silent x) [] (entry n d ∷ [])) p
 handed-event a d n (rule.closed c) p q =
@@ -294,18 +296,18 @@ event-heard a rule.droppedPair h = omega (arith, h)
 event-heard a rule.droppedLong h = omega (arith, h)
 
 gives-run : (a : ℕ) (s : Stream) (st : List ℕ) (d : Delivery) (r : Ran) → Follows s st (d .bytes) r → d .number ≡ outcome a (r .event) .number
-  → d .taken ≡ r .taken → take (d .len) (d .out) ≡ outcome a (r .event) .payload → d .state ≡ r .bytes → Gives a s st d
+    → d .taken ≡ r .taken → take (d .len) (d .out) ≡ outcome a (r .event) .payload → d .state ≡ r .bytes → Gives a s st d
 gives-run a s st d r f n t p e =
     let same : took d ≡ take (r .taken) (d .bytes) = ap (λ k. take k (d .bytes)) t in
     record {
       count = ap length same ∙ length-take-le (r .taken) (d .bytes) (f .fits) ∙ sym t;
       handed = λ k.
-        handed-event a d k (r .event) n p
-        ∙ ap (λ m. handUp a (k + m) (r .event)) t
-        ∙ sym (ap (handedUpFrom a s k) same ∙ f .handed a k);
+          handed-event a d k (r .event) n p
+          ∙ ap (λ m. handUp a (k + m) (r .event)) t
+          ∙ sym (ap (handedUpFrom a s k) same ∙ f .handed a k);
       stands = rw (ap (rule.after s) same ∙ f .after, e) (f .stands);
       bytes = e ∙ sym (f .bytes) ∙ sym (ap (settled s st) same);
-      heard = λ q. event-heard a (r .event) (sym n ∙ q)
+      heard = λ q. event-heard a (r .event) (sym n ∙ q);
     }
 
 pub gives : (a : ℕ) (s : Stream) (st : List ℕ) (d : Delivery) → Stood s st → Called a s st d → Gives a s st d
@@ -314,7 +316,7 @@ gives a s st d w (ran r f n t p e) = gives-run a s st d r f n t p e
 
 -- Frames and numbers, in order, of all calls.
 ordered : (a : ℕ) (ds : List Delivery) (s : Stream) (st : List ℕ) (n : ℕ) → Stood s st → Deliveries a st ds
-  → handedBy n ds ≡ handedUpFrom a s n (joined ds)
+    → handedBy n ds ≡ handedUpFrom a s n (joined ds)
 unfolding handedBy joined handedUpFrom
 ordered a [] s st n w m = refl
 ordered a (d ∷ ds) s st n w m =
@@ -332,7 +334,7 @@ none-unsound a (d ∷ ds) s st w m =
 
 -- A frame handed up with 0 was closed, and its content is good.
 zero-closed : (a : ℕ) (e : Event) → outcome a e .number ≡ done
-  → (c : List ℕ) × (e ≡ rule.closed c) × Good a c (outcome a e .payload)
+    → (c : List ℕ) × (e ≡ rule.closed c) × Good a c (outcome a e .payload)
 unfolding outcome
 zero-closed a rule.nothing h = absurd (omega (arith, h))
 zero-closed a (rule.closed c) h = (c, refl, judge-only a c h)
@@ -377,7 +379,7 @@ module _ (since bs c : List ℕ) (k : ClosedBy (rule.after rule.begin since) bs 
   wrapped : (before : List ℕ) × (since ++ bs ≡ before ++ wrap c)
   wrapped =
       let p : (before : List ℕ) × ((since ++ k .init) ++ k .byte ∷ [] ≡ before ++ wrap c) =
-            closed-stands (since ++ k .init) (k .byte) c closing-there in
+      closed-stands (since ++ k .init) (k .byte) c closing-there in
       (p .0, whole ∙ p .1)
 
   outside-after : rule.after rule.begin (since ++ bs) ≡ rule.begin
@@ -390,10 +392,11 @@ module _ (since bs c : List ℕ) (k : ClosedBy (rule.after rule.begin since) bs 
   short : length c ≤ maxContent
   short =
       let s : Stream = rule.after rule.begin (since ++ k .init) in
-      omega
-      (arith,
-      after-few (since ++ k .init) rule.begin (omega arith),
-      ap (λ x. length (contentIn x)) (closing s (k .byte) c closing-there .0))
+      omega (
+        arith,
+        after-few (since ++ k .init) rule.begin (omega arith),
+        ap (λ x. length (contentIn x)) (closing s (k .byte) c closing-there .0),
+      )
 
 -- What a call with number 0 handed up stands at the end of the bytes taken, and the reader is outside again.
 record Framed (a : ℕ) (past : List ℕ) (last : ℕ) (d : Delivery) : Type 0 where
@@ -401,7 +404,7 @@ record Framed (a : ℕ) (past : List ℕ) (last : ℕ) (d : Delivery) : Type 0 w
   state : Stood rule.begin (d .state)
 
 framed : (a : ℕ) (old since : List ℕ) (last : ℕ) (st : List ℕ) (d : Delivery) → last ≤ length old → Called a (rule.after rule.begin since) st d
-  → d .number ≡ done → Stood (rule.after (rule.after rule.begin since) (took d)) (d .state) → Framed a (old ++ since) last d
+    → d .number ≡ done → Stood (rule.after (rule.after rule.begin since) (took d)) (d .state) → Framed a (old ++ since) last d
 unfolding frame
 framed a old since last st d l (no-room n t e) h w = absurd (omega (arith, n, h))
 framed a old since last st d l (ran r f n t p e) h w =
@@ -409,52 +412,56 @@ framed a old since last st d l (ran r f n t p e) h w =
     let c : List ℕ = z .0 in
     let same : take (r .taken) (d .bytes) ≡ took d = ap (λ m. take m (d .bytes)) (sym t) in
     let k : ClosedBy (rule.after rule.begin since) (took d) c =
-          subst (λ l. ClosedBy (rule.after rule.begin since) l c) same (f .closed c (z .1)) in
+    subst (λ l. ClosedBy (rule.after rule.begin since) l c) same (f .closed c (z .1)) in
     let front : (before : List ℕ) × (since ++ took d ≡ before ++ wrap c) = wrapped since (took d) c k in
     let data-is : take (d .len) (d .out) ≡ outcome a (r .event) .payload = p in
     record {
       stands =
-        record {
-          before = old ++ front .0;
-          unbroken =
-            append-assoc old since (took d)
-            ∙ ap (λ l. old ++ l) (front .1)
-            ∙ sym (append-assoc old (front .0) (wrap c))
-            ∙ ap (λ x. (old ++ front .0) ++ wrap x) (z .2 .content)
-            ∙ ap (λ x. (old ++ front .0) ++ wrap (contentOf a x)) (sym data-is);
-          later = omega (arith, length-append old (front .0), l);
-          size =
-            record {
-              least = omega (arith, z .2 .least, ap length data-is);
-              most =
-                omega
-                (arith,
-                ap length data-is,
-                short since (took d) c k,
-                ap length (z .2 .content),
-                length-contentOf a (outcome a (r .event) .payload))
-            }
-        };
-      state = subst (λ s. Stood s (d .state)) (sym (after-append rule.begin since (took d)) ∙ outside-after since (took d) c k) w
+          record {
+            before = old ++ front .0;
+            unbroken =
+                append-assoc old since (took d)
+                ∙ ap (λ l. old ++ l) (front .1)
+                ∙ sym (append-assoc old (front .0) (wrap c))
+                ∙ ap (λ x. (old ++ front .0) ++ wrap x) (z .2 .content)
+                ∙ ap (λ x. (old ++ front .0) ++ wrap (contentOf a x)) (sym data-is);
+            later = omega (arith, length-append old (front .0), l);
+            size =
+                record {
+                  least = omega (arith, z .2 .least, ap length data-is);
+                  most =
+                      omega (
+                        arith,
+                        ap length data-is,
+                        short since (took d) c k,
+                        ap length (z .2 .content),
+                        length-contentOf a (outcome a (r .event) .payload),
+                      );
+                };
+          };
+      state = subst (λ s. Stood s (d .state)) (sym (after-append rule.begin since (took d)) ∙ outside-after since (took d) c k) w;
     }
 
 -- Every frame of all calls. What was taken is split where the last frame handed up ended, or later.
 all-stand : (a : ℕ) (ds : List Delivery) (old since : List ℕ) (last : ℕ) (st : List ℕ) → last ≤ length old
-  → Stood (rule.after rule.begin since) st → Deliveries a st ds → AllStand a (old ++ since) last ds
+    → Stood (rule.after rule.begin since) st → Deliveries a st ds → AllStand a (old ++ since) last ds
 all-stand a [] old since last st l w m = tt
 all-stand a (d ∷ ds) old since last st l w m =
     (λ h. framed a old since last st d l c h (g .stands) .stands, rest (eqb (d .number) done) refl (all-stand a ds))
   where
     c : Called a (rule.after rule.begin since) st d
     c = called a (rule.after rule.begin since) st d w (m .0)
+
     g : Gives a (rule.after rule.begin since) st d
     g = gives a (rule.after rule.begin since) st d w c
+
     past : List ℕ
     past = (old ++ since) ++ took d
+
     rest : (t : Bool) → eqb (d .number) done ≡ t
-      → ((old since : List ℕ) (last : ℕ) (st : List ℕ) → last ≤ length old → Stood (rule.after rule.begin since) st → Deliveries a st ds
-      → AllStand a (old ++ since) last ds)
-      → AllStand a past (cond t (length past) last) ds
+        → ((old since : List ℕ) (last : ℕ) (st : List ℕ) → last ≤ length old → Stood (rule.after rule.begin since) st → Deliveries a st ds
+        → AllStand a (old ++ since) last ds)
+        → AllStand a past (cond t (length past) last) ds
     rest true e ih =
         let f : Framed a (old ++ since) last d = framed a old since last st d l c (eqb-true (d .number) done e) (g .stands) in
         subst (λ x. AllStand a x (length past) ds) (append-nil past)
@@ -474,13 +481,13 @@ deliveries a ds m =
     record {
       in-order = ordered a ds rule.begin fresh 0 begins m;
       frames = all-stand a ds [] [] 0 fresh (omega arith) (subst (λ x. Stood x fresh) (sym after-none) begins) m;
-      sound = none-unsound a ds rule.begin fresh begins m
+      sound = none-unsound a ds rule.begin fresh begins m;
     }
 
 -- The state after several deliveries is that of the bytes they took: any two lists of deliveries that took the same bytes,
 -- cut in any way, leave the same bytes in it.
 state-settled : (a : ℕ) (ds : List Delivery) (s : Stream) (st : List ℕ) → Stood s st → Deliveries a st ds
-  → stateAfter st ds ≡ settled s st (joined ds)
+    → stateAfter st ds ≡ settled s st (joined ds)
 unfolding joined settled
 state-settled a [] s st w m = refl
 state-settled a (d ∷ ds) s st w m =
@@ -490,7 +497,7 @@ state-settled a (d ∷ ds) s st w m =
     ∙ sym (settled-append s st (took d) (joined ds))
 
 pub same-state : (a : ℕ) (ds es : List Delivery) → Deliveries a fresh ds → Deliveries a fresh es → joined ds ≡ joined es
-  → stateAfter fresh ds ≡ stateAfter fresh es
+    → stateAfter fresh ds ≡ stateAfter fresh es
 same-state a ds es m n e =
     state-settled a ds rule.begin fresh begins m
     ∙ ap (settled rule.begin fresh) e
@@ -498,8 +505,8 @@ same-state a ds es m n e =
 
 -- The second sending, over deliveries: the last thing handed up is the frame's data.
 pub sent-twice : (a : ℕ) (ds : List Delivery) (noise d : List ℕ) → Deliveries a fresh ds → Sized d
-  → joined ds ≡ (noise ++ frame a d) ++ frame a d
-  → handedBy 0 ds ≡ handedUp a (noise ++ frame a d) ++ record { frame = received d; end = length (joined ds) } ∷ []
+    → joined ds ≡ (noise ++ frame a d) ++ frame a d
+    → handedBy 0 ds ≡ handedUp a (noise ++ frame a d) ++ record { frame = received d; end = length (joined ds) } ∷ []
 sent-twice a ds noise d m h e =
     deliveries a ds m .in-order
     ∙ ap (handedUp a) e

@@ -17,6 +17,7 @@ use Rattle.frame.specs.declared.stream.Found.{Found}
 use Rattle.frame.specs.declared.stream.Found.the-variants.{At, Formless}
 use Rattle.frame.specs.declared.stream.End.{End}
 use Rattle.frame.specs.declared.stream.End.the-variants.{NoFrame, ClosedWith, Paired, Long}
+use Rattle.frame.specs.declared.stream.Run.{Run}
 use Rattle.frame.specs.declared.stream.Move.{Move}
 use Rattle.frame.specs.declared.stream.Move.the-variants.{On, Keep, Closed, BadPair, TooLong}
 
@@ -167,6 +168,9 @@ endOf rule.nothing = NoFrame
 endOf (rule.closed c) = ClosedWith (length c)
 endOf rule.droppedPair = Paired
 endOf rule.droppedLong = Long
+
+abbrev pub endedAt : End → ℕ → Run
+endedAt e taken = record { end = e; taken = taken; place = place 0 0 }
 
 pub record RunIs (r : Ran) (e : End) (count : ℕ) (p : Place) (state : List ℕ) : Type 0 where
   pub end : e ≡ endOf (r .event)

@@ -22,7 +22,7 @@ ghost use Rattle.protocol.specs.Bytes.{half};
 ghost use Rattle.protocol.specs.Frame.{judge};
 ghost use Rattle.protocol.specs.Buffer.{Emits};
 ghost use Rattle.frame.specs.Read.{Tallies};
-ghost use Rattle.frame.specs.Stream.{placeOf, moveOf, collectOf, pairedOf, standing, runFrom, RunIs, fed, Feeds};
+ghost use Rattle.frame.specs.Stream.{placeOf, moveOf, collectOf, pairedOf, standing, runFrom, RunIs, endedAt, fed, Feeds};
 
 // The length of a stream state, and where its content begins (docs/FORMATS.md).
 pub const STATE_LEN: usize = 261;
@@ -148,6 +148,17 @@ pub(crate) struct Run {
     pub place: Place,
 }
 
+// A call whose last byte closed or dropped a frame: the reader is outside, with nothing waiting.
+fn ended(end: End, taken: usize) -> Run
+    ensures { λ r. ⌜ r ≡ endedAt end taken ⌝ }
+{
+    Run {
+        end,
+        taken,
+        place: Place { phase: 0, len: 0 },
+    }
+}
+
 // Bytes fed from a place until one closes or drops a frame. Content goes into the state as it comes; its first three bytes are
 // left to put_place.
 fn run_bytes(start: Place, bytes: &[u8], state: &mut [u8]) -> Run
@@ -168,27 +179,9 @@ fn run_bytes(start: Place, bytes: &[u8], state: &mut [u8]) -> Run
                 state[at] = b;
                 place = next;
             }
-            Move::Closed => {
-                return Run {
-                    end: End::ClosedWith(place.len),
-                    taken: i,
-                    place: Place { phase: 0, len: 0 },
-                };
-            }
-            Move::BadPair => {
-                return Run {
-                    end: End::Paired,
-                    taken: i,
-                    place: Place { phase: 0, len: 0 },
-                };
-            }
-            Move::TooLong => {
-                return Run {
-                    end: End::Long,
-                    taken: i,
-                    place: Place { phase: 0, len: 0 },
-                };
-            }
+            Move::Closed => return ended(End::ClosedWith(place.len), i),
+            Move::BadPair => return ended(End::Paired, i),
+            Move::TooLong => return ended(End::Long, i),
         }
     }
     Run {

@@ -1,9 +1,13 @@
 -- `frame::stream::run_bytes` meets its contract. Assumes nothing.
-use Prim.Native.Nat.{_+_, _-_, _<_}
+use Prim.Native.Nat.{ℕ, _-_}
 use native.Mathlib.Omega.{arith}
-use mathlib.Core.Path.{_≡_, sym, _∙_}
+use mathlib.Core.Path.{_≡_, sym, subst, _∙_}
+use mathlib.Core.List.{List}
 use borrow.Author.Needs.{needs}
 use lib.ListN.{length}
+use Rattle.frame.specs.declared.stream.End.{End}
+use Rattle.frame.specs.declared.stream.Run.{Run}
+use Rattle.frame.specs.Stream.{Ran, RunIs, place, endedAt}
 use Rattle.frame.proofs.FeedLaws.{Running, run-begins, goes-on, fits, keeps, closes, drops-pair, drops-long, all-taken, placed-formed, form-of}
 use Rattle.frame.proofs.stream.run_bytes.Statement.{statement}
 use Rattle.frame.proofs.stream.run_bytes.Tie as tie
@@ -13,6 +17,11 @@ Inv-loop bytes state₀ place₀ i₀ state place i = Running state₀ bytes pla
 
 abbrev μ-loop : tie.MeasureT-loop
 μ-loop bytes state₀ place₀ i₀ state place i = length bytes - i
+
+-- What `ended` returns, in a run.
+ended-is : {r : Ran} {e : End} {n : ℕ} {x : Run} {st : List ℕ} → x ≡ endedAt e n → RunIs r e n (place 0 0) st
+    → RunIs r (x .end) (x .taken) (x .place) st
+ended-is {r} {e} {n} {x} {st} q w = subst (λ y. RunIs r (y .end) (y .taken) (y .place) st) (sym q) w
 
 -- The state keeps its length.
 same-at : (c : tie.At-loop Inv-loop μ-loop) → length (c .loop .state) ≡ length (c .before .before .before .args .state .now)
@@ -79,44 +88,59 @@ loop-again-2 c =
 enum-told : tie.Need-enum-told Inv-loop μ-loop
 enum-told c = search needs
 
+ended-requires : tie.Need-ended-requires Inv-loop μ-loop
+ended-requires c κs = search needs
+
 same-length : tie.Need-same-length Inv-loop μ-loop
-same-length c = same-at (c .before .before .before .before .before)
+same-length c = same-at (c .before .before .before .before .before .before)
 
 returns : tie.Need-returns Inv-loop μ-loop
 returns c =
-    let m = c .before .before in
+    let told = c .before in
+    let m = told .before .before in
     let in-loop = m .before .before in
     let start = in-loop .before .before .before .before in
-    closes (start .args .state .now) (start .args .bytes .now) (in-loop .before .loop .inv) (in-loop .loop-test .taken)
-    (sym (c .enum-told .given .1) ∙ m .move-on .ensures)
+    ended-is (c .ended .ensures)
+    (closes (start .args .state .now) (start .args .bytes .now) (in-loop .before .loop .inv) (in-loop .loop-test .taken)
+    (sym (told .enum-told .given .1) ∙ m .move-on .ensures))
 
 enum-told-2 : tie.Need-enum-told-2 Inv-loop μ-loop
 enum-told-2 c = search needs
 
+ended-requires-2 : tie.Need-ended-requires-2 Inv-loop μ-loop
+ended-requires-2 c κs = search needs
+
 same-length-2 : tie.Need-same-length-2 Inv-loop μ-loop
-same-length-2 c = same-at (c .before .before .before .before .before)
+same-length-2 c = same-at (c .before .before .before .before .before .before)
 
 returns-2 : tie.Need-returns-2 Inv-loop μ-loop
 returns-2 c =
-    let m = c .before .before in
+    let told = c .before in
+    let m = told .before .before in
     let in-loop = m .before .before in
     let start = in-loop .before .before .before .before in
-    drops-pair (start .args .state .now) (start .args .bytes .now) (in-loop .before .loop .inv) (in-loop .loop-test .taken)
-    (sym (c .enum-told2 .given .1) ∙ m .move-on .ensures)
+    ended-is (c .ended2 .ensures)
+    (drops-pair (start .args .state .now) (start .args .bytes .now) (in-loop .before .loop .inv) (in-loop .loop-test .taken)
+    (sym (told .enum-told2 .given .1) ∙ m .move-on .ensures))
 
 enum-told-3 : tie.Need-enum-told-3 Inv-loop μ-loop
 enum-told-3 c = search needs
 
+ended-requires-3 : tie.Need-ended-requires-3 Inv-loop μ-loop
+ended-requires-3 c κs = search needs
+
 same-length-3 : tie.Need-same-length-3 Inv-loop μ-loop
-same-length-3 c = same-at (c .before .before .before .before .before)
+same-length-3 c = same-at (c .before .before .before .before .before .before)
 
 returns-3 : tie.Need-returns-3 Inv-loop μ-loop
 returns-3 c =
-    let m = c .before .before in
+    let told = c .before in
+    let m = told .before .before in
     let in-loop = m .before .before in
     let start = in-loop .before .before .before .before in
-    drops-long (start .args .state .now) (start .args .bytes .now) (in-loop .before .loop .inv) (in-loop .loop-test .taken)
-    (sym (c .enum-told3 .given .1) ∙ m .move-on .ensures)
+    ended-is (c .ended3 .ensures)
+    (drops-long (start .args .state .now) (start .args .bytes .now) (in-loop .before .loop .inv) (in-loop .loop-test .taken)
+    (sym (told .enum-told3 .given .1) ∙ m .move-on .ensures))
 
 same-length-4 : tie.Need-same-length-4 Inv-loop μ-loop
 same-length-4 c = same-at (c .before)
@@ -145,12 +169,15 @@ run-bytes-spec =
     loop-less-2
     loop-again-2
     enum-told
+    ended-requires
     same-length
     returns
     enum-told-2
+    ended-requires-2
     same-length-2
     returns-2
     enum-told-3
+    ended-requires-3
     same-length-3
     returns-3
     same-length-4
