@@ -2,3 +2,4 @@
 pub mod TableLaws
 pub mod WriteLaws
 pub mod ReadLaws
+pub mod Exact
