@@ -12,7 +12,7 @@ use lib.Seq.{take-at, drop-at}
 use lib.Dec.{eqb}
 use Rattle.protocol.specs.Numbers.{done, maxDepth, roomSerial, roomUdp}
 use Rattle.protocol.specs.Bytes.{Bytes}
-use Rattle.protocol.specs.Frame.{ifRoom, received, refused}
+use Rattle.protocol.specs.Frame.{ifRoom, ifDone, received, refused}
 use Rattle.protocol.specs.Buffer.{over, Emits}
 use Rattle.protocol.specs.Request.{Request, Asked, Allowed, allowance, serialForm, udpForm, readSerial, readUdp}
 use Rattle.protocol.proofs.ListLaws.{bytes-left}
@@ -90,12 +90,12 @@ pub record Wrote (form : List ℕ) (old : List ℕ) (n size : ℕ) (new : List �
   pub rest : drop size new ≡ drop size old
 
 module _ (form : Request → List ℕ) (least : ℕ) (q : Request) {old new : List ℕ} {n size : ℕ} (room : least ≤ length old) where
-  promise : Emits (ifRoom least (length old) (writeRequest form q)) old n size new → Emits (writeRequest form q) old n size new
-  unfolding ifRoom
+  promise : Emits (writeRequest least (length old) form q) old n size new → Emits (ifDone (allowance q) (received (form q))) old n size new
+  unfolding writeRequest ifRoom
   promise e = rw (le-ltb (length old) least room) at e
 
-  writes : Allowed q → Emits (ifRoom least (length old) (writeRequest form q)) old n size new → Wrote (form q) old n size new
-  unfolding writeRequest over
+  writes : Allowed q → Emits (writeRequest least (length old) form q) old n size new → Wrote (form q) old n size new
+  unfolding over
   writes h e =
       let p : Emits (received (form q)) old n size new = rw (eq-eqb (allowance q) done h) at (promise e) in
       record {
@@ -108,8 +108,7 @@ module _ (form : Request → List ℕ) (least : ℕ) (q : Request) {old new : Li
             ∙ ap (λ k. drop k old) (sym (p .len));
       }
 
-  writes-only : Emits (ifRoom least (length old) (writeRequest form q)) old n size new → n ≡ done → Allowed q
-  unfolding writeRequest
+  writes-only : Emits (writeRequest least (length old) form q) old n size new → n ≡ done → Allowed q
   writes-only e h = go (eqb (allowance q) done) refl
     where
       go : (t : Bool) → eqb (allowance q) done ≡ t → Allowed q
@@ -119,21 +118,21 @@ module _ (form : Request → List ℕ) (least : ℕ) (q : Request) {old new : Li
           sym (p .number) ∙ h
 
 pub write-serial-exact : (address : ℕ) (q : Request) {old new : List ℕ} {n size : ℕ} → roomSerial ≤ length old → Allowed q
-    → Emits (ifRoom roomSerial (length old) (writeRequest (serialForm address) q)) old n size new
+    → Emits (writeRequest roomSerial (length old) (serialForm address) q) old n size new
     → Wrote (serialForm address q) old n size new
 write-serial-exact address q room h e = writes (serialForm address) roomSerial q room h e
 
 pub write-udp-exact : (q : Request) {old new : List ℕ} {n size : ℕ} → roomUdp ≤ length old → Allowed q
-    → Emits (ifRoom roomUdp (length old) (writeRequest udpForm q)) old n size new → Wrote (udpForm q) old n size new
+    → Emits (writeRequest roomUdp (length old) udpForm q) old n size new → Wrote (udpForm q) old n size new
 write-udp-exact q room h e = writes udpForm roomUdp q room h e
 
 -- Only an allowed request gets 0.
 pub write-serial-only : (address : ℕ) (q : Request) {old new : List ℕ} {n size : ℕ} → roomSerial ≤ length old
-    → Emits (ifRoom roomSerial (length old) (writeRequest (serialForm address) q)) old n size new → n ≡ done → Allowed q
+    → Emits (writeRequest roomSerial (length old) (serialForm address) q) old n size new → n ≡ done → Allowed q
 write-serial-only address q room e h = writes-only (serialForm address) roomSerial q room e h
 
 pub write-udp-only : (q : Request) {old new : List ℕ} {n size : ℕ} → roomUdp ≤ length old
-    → Emits (ifRoom roomUdp (length old) (writeRequest udpForm q)) old n size new → n ≡ done → Allowed q
+    → Emits (writeRequest roomUdp (length old) udpForm q) old n size new → n ≡ done → Allowed q
 write-udp-only q room e h = writes-only udpForm roomUdp q room e h
 
 -- What was written is read back.
@@ -141,14 +140,14 @@ front-bytes : (k : ℕ) (bs : List ℕ) → Bytes bs → Bytes (take k bs)
 front-bytes k bs all = bytes-left (take k bs) (drop k bs) (subst Bytes (sym (take-append-drop k bs)) all)
 
 pub serial-back : (address : ℕ) (q : Request) {old new : List ℕ} {n size : ℕ} → roomSerial ≤ length old → Bytes new → Allowed q
-    → Emits (ifRoom roomSerial (length old) (writeRequest (serialForm address) q)) old n size new
+    → Emits (writeRequest roomSerial (length old) (serialForm address) q) old n size new
     → {x : declared.Asked} → AskedIs (readSerial address (take size new)) x → AskedIs (found q) x
 serial-back address q {new = new} {size = size} room all h e promised =
     read-serial-exact address (take size new) (front-bytes size new all) promised q .1
     (h, write-serial-exact address q room h e .front)
 
 pub udp-back : (q : Request) {old new : List ℕ} {n size : ℕ} → roomUdp ≤ length old → Bytes new → Allowed q
-    → Emits (ifRoom roomUdp (length old) (writeRequest udpForm q)) old n size new
+    → Emits (writeRequest roomUdp (length old) udpForm q) old n size new
     → {x : declared.Asked} → AskedIs (readUdp (take size new)) x → AskedIs (found q) x
 udp-back q {new = new} {size = size} room all h e promised =
     read-udp-exact (take size new) (front-bytes size new all) promised q .1 (h, write-udp-exact q room h e .front)

@@ -17,7 +17,7 @@ use Rattle.protocol.specs.Bytes.{numberAfter, number}
 use Rattle.protocol.specs.Frame.{doubled, Received, readFrame, readDatagram}
 use Rattle.protocol.specs.Buffer.{over, putAt, Put}
 use Rattle.protocol.specs.Request.{Request, Asked, asksIndex, asksValue, fits, declined, askedIf, beforeZero, readIndexed, readValued, readShape, readRequest, readPayload, readSerial, readUdp}
-use Rattle.protocol.proofs.BufferLaws.{over-put}
+use Rattle.protocol.proofs.BufferLaws.{over-put, part-lent}
 use Rattle.protocol.proofs.RequestLaws.{askedIf-by, readValued-by, readShape-by, readRequest-by, readRequest-one, readPayload-by, path-most}
 use Rattle.frame.specs.Read.{contentFrom, Checks}
 use Rattle.frame.specs.declared.read.Checked.{Checked}
@@ -72,23 +72,9 @@ number-four (a ∷ b ∷ c ∷ []) h = absurd (omega (arith, h))
 number-four (a ∷ b ∷ c ∷ d ∷ []) h = refl
 number-four (a ∷ b ∷ c ∷ d ∷ e ∷ bs) h = absurd (omega (arith, h))
 
-pub word-last : (bs : List ℕ) (at : ℕ) → length bs ≡ at + 4 → {a b c d : ℕ} → a ≡ 0 * 2 ^ 8 + getD bs at 0
-    → b ≡ a * 2 ^ 8 + getD bs (at + 1) 0 → c ≡ b * 2 ^ 8 + getD bs (at + 2) 0 → d ≡ c * 2 ^ 8 + getD bs (at + 3) 0
-    → d ≡ number (drop at bs)
-word-last bs at h {a} {b} {c} {d} p q r s =
-    let first : getD (drop at bs) 0 0 ≡ getD bs at 0 = getD-drop at bs 0 0 ∙ ap (λ n. getD bs n 0) (add-zero at) in
-    omega (
-      arith,
-      p,
-      q,
-      r,
-      s,
-      first,
-      getD-drop at bs 1 0,
-      getD-drop at bs 2 0,
-      getD-drop at bs 3 0,
-      number-four (drop at bs) (omega (arith, h, length-drop at bs)),
-    )
+pub word-four : (b : List ℕ) → length b ≡ 4 → {i j k n : ℕ} → i ≡ 0 * 2 ^ 8 + getD b 0 0 → j ≡ i * 2 ^ 8 + getD b 1 0
+    → k ≡ j * 2 ^ 8 + getD b 2 0 → n ≡ k * 2 ^ 8 + getD b 3 0 → n ≡ number b
+word-four b h p q r s = omega (arith, p, q, r, s, number-four b h)
 
 -- Ops 4 and 5: another length than the zero's place tells, and that length.
 after-zero : (bs : List ℕ) {end : ℕ} → end ≡ beforeZero bs → length (drop (suc (beforeZero bs)) bs) ≡ length bs - (end + 1)
@@ -103,7 +89,7 @@ module _ (op : ℕ) (bs : List ℕ) {x : declared.Asked} {end : ℕ} (e : end �
       (ne-eqb (length (drop (suc (beforeZero bs)) bs)) 4 (λ f. h (omega (arith, after-zero bs e, f)))))
       a
 
-  pub valued-whole : length bs ≡ end + 5 → {v : ℕ} → v ≡ number (drop (end + 1) bs)
+  pub valued-whole : length bs ≡ end + 5 → {v : ℕ} → v ≡ number (take (length bs - (end + 1)) (drop (end + 1) bs))
       → AskedIs (readIndexed op v (take end bs)) x → AskedIs (readValued op bs) x
   unfolding readValued
   valued-whole h {v} f a =
@@ -111,7 +97,7 @@ module _ (op : ℕ) (bs : List ℕ) {x : declared.Asked} {end : ℕ} (e : end �
       carry
       (rw (eq-eqb (length (drop (suc (beforeZero bs)) bs)) 4 (omega (arith, h, after-zero bs e)))
       (ap₂ (λ n l. readIndexed op n l)
-      (ap (λ n. number (drop n bs)) at ∙ sym f)
+      (ap (λ n. number (drop n bs)) at ∙ sym (f ∙ ap number (part-lent (end + 1) bs)))
       (ap (λ n. take n bs) (sym e))))
       a
 

@@ -8,12 +8,12 @@ use mathlib.Core.List.{List, [], _∷_, _++_, append-assoc, append-nil}
 use borrow.Author.Tests.{eq-eqb, ne-eqb, lt-ltb, le-ltb}
 use lib.ListN.{length, getD, take, drop, length-append, length-take}
 use lib.Seq.{take-suc, take-all, take-at, length-take-le}
-use Rattle.protocol.specs.Numbers.{done, roomSerial, roomUdp, PDI, opNode, opRead}
+use Rattle.protocol.specs.Numbers.{done, noRoom, roomSerial, roomUdp, PDI, opNode, opRead}
 use Rattle.protocol.specs.Bytes.{word}
-use Rattle.protocol.specs.Frame.{Received, received, refused, frame, datagram, ifSized, ifRoom, writeFrame, writeDatagram}
+use Rattle.protocol.specs.Frame.{Received, received, refused, frame, datagram, ifSized, ifDone, ifRoom, writeFrame, writeDatagram}
 use Rattle.protocol.specs.Buffer.{putAt, Put, Emits}
 use Rattle.protocol.specs.Request.{Request, allowance, Allowed, dataOf, serialForm, udpForm}
-use Rattle.protocol.proofs.BufferLaws.{put-nil, puts, put-room, length-put, emits-refused}
+use Rattle.protocol.proofs.BufferLaws.{put-nil, puts, put-room, length-put, emits-refused, emits-no-room, emits-in-room}
 use Rattle.protocol.proofs.FrameLaws.{ifSized-sized}
 use Rattle.protocol.proofs.RequestLaws.{dataOf-sized}
 use Rattle.request.specs.Asked.{requestOf}
@@ -71,18 +71,24 @@ module _ (op : ℕ) (path : List ℕ) (index value : ℕ) where
 pub put-as : {at r : ℕ} {ys zs old new : List ℕ} → ys ≡ zs → Put at ys old r new → Put at zs old r new
 put-as {at} {r} {old = old} {new = new} e p = subst (λ l. Put at l old r new) e p
 
--- A request written out: what the table does not allow, and what it allows.
-module _ (form : Request → List ℕ) (r : Request) {old : List ℕ} {n : ℕ} (e : n ≡ allowance r) where
-  pub emits-unallowed : (n ≡ done → ⊥) → Emits (writeRequest form r) old n 0 old
+-- A request written out: with no room, what the table does not allow, and what it allows.
+module _ (least : ℕ) (form : Request → List ℕ) (r : Request) (old : List ℕ) where
+  pub emits-unroomed : length old < least → Emits (writeRequest least (length old) form r) old noRoom 0 old
   unfolding writeRequest
-  emits-unallowed h =
-      rw (ne-eqb (allowance r) done (λ d. h (e ∙ d)))
-      (subst (λ m. Emits (refused m) old n 0 old) e (emits-refused n old))
+  emits-unroomed h = emits-no-room least (length old) (ifDone (allowance r) (received (form r))) old h
 
-  pub emits-allowed : n ≡ done → {k size : ℕ} {new : List ℕ} → Emits (received (form r)) old k size new
-      → Emits (writeRequest form r) old k size new
+  pub emits-unallowed : least ≤ length old → {n : ℕ} → n ≡ allowance r → (n ≡ done → ⊥)
+      → Emits (writeRequest least (length old) form r) old n 0 old
   unfolding writeRequest
-  emits-allowed h p = rw (eq-eqb (allowance r) done (sym e ∙ h)) p
+  emits-unallowed room {n} e h =
+      emits-in-room room
+      (rw (ne-eqb (allowance r) done (λ d. h (e ∙ d)))
+      (subst (λ m. Emits (refused m) old n 0 old) e (emits-refused n old)))
+
+  pub emits-allowed : least ≤ length old → Allowed r → {n size : ℕ} {new : List ℕ} → Emits (received (form r)) old n size new
+      → Emits (writeRequest least (length old) form r) old n size new
+  unfolding writeRequest
+  emits-allowed room h p = emits-in-room room (rw (eq-eqb (allowance r) done h) p)
 
 -- The part of a buffer that holds what was put from its front on.
 pub put-front : {ys old new : List ℕ} {k : ℕ} → Put 0 ys old k new → take k new ≡ ys

@@ -12,7 +12,7 @@ use protocol::DONE;
 use protocol::PropertyIndex;
 ghost use mathlib.Core.Path.{_≡_};
 ghost use Prim.Native.Nat.{_+_, _-_, _*_, _≤_, _<_, _^_};
-ghost use lib.ListN.{length, drop};
+ghost use lib.ListN.{length};
 ghost use Rattle.protocol.specs.Numbers.{done, opWriteExtended};
 ghost use Rattle.protocol.specs.Bytes.{number};
 ghost use Rattle.protocol.specs.Request.{declined, askedIf, readIndexed, readValued, readShape, readRequest, readSerial, readUdp};
@@ -80,15 +80,15 @@ fn with_byte(high: u32, low: u8) -> u32
     high * 256 + low as u32
 }
 
-// The number that the last four bytes stand for.
-fn word_from(bs: &[u8], at: usize) -> u32
-    requires { ⌜ length (now bs) ≡ at + 4 ⌝ }
-    ensures { λ r. ⌜ r ≡ number (drop at (now (bs .entry))) ⌝ }
+// The number that four bytes stand for, the high byte first.
+fn word_of(b: &[u8]) -> u32
+    requires { ⌜ length (now b) ≡ 4 ⌝ }
+    ensures { λ r. ⌜ r ≡ number (now (b .entry)) ⌝ }
 {
-    let a = with_byte(0, bs[at]);
-    let b = with_byte(a, bs[at + 1]);
-    let c = with_byte(b, bs[at + 2]);
-    with_byte(c, bs[at + 3])
+    let one = with_byte(0, b[0]);
+    let two = with_byte(one, b[1]);
+    let three = with_byte(two, b[2]);
+    with_byte(three, b[3])
 }
 
 // Ops 4 and 5: the first zero ends path and index, and four bytes follow it.
@@ -99,7 +99,8 @@ fn read_valued(op: u8, bs: &[u8]) -> Asked
     if bs.len() != end + 5 {
         return refusal(BAD_PARAMETER);
     }
-    let value = word_from(bs, end + 1);
+    let after = end + 1;
+    let value = word_of(&bs[after..]);
     read_indexed(op, value, &bs[..end])
 }
 

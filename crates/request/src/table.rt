@@ -12,14 +12,15 @@ ghost use Rattle.request.specs.Asked.{requestOf};
 pub(crate) fn before_zero(bs: &[u8]) -> usize
     ensures { λ r. ⌜ r ≡ beforeZero (now (bs .entry)) ⌝ }
 {
+    let mut end = bs.len();
     let mut i = 0;
-    while i < bs.len() {
+    while i < end {
         if bs[i] == 0 {
-            return i;
+            end = i;
         }
         i += 1;
     }
-    i
+    end
 }
 
 // Whether bytes are a path: 1 to 16 of them, none of them 0.

@@ -18,7 +18,6 @@ ghost use Prim.Native.Nat.{_+_, _≤_};
 ghost use lib.ListN.{length};
 ghost use Rattle.protocol.specs.Numbers.{roomSerial, roomUdp};
 ghost use Rattle.protocol.specs.Bytes.{word};
-ghost use Rattle.protocol.specs.Frame.{ifRoom};
 ghost use Rattle.protocol.specs.Buffer.{Put, Emits};
 ghost use Rattle.protocol.specs.Request.{allowance, dataOf, serialForm, udpForm};
 ghost use Rattle.request.specs.Asked.{requestOf};
@@ -90,7 +89,7 @@ pub fn write_serial(
     value: u32,
     out: &mut [u8],
 ) -> Written
-    ensures { λ r. ⌜ Emits (ifRoom roomSerial (length (now (out .entry))) (writeRequest (serialForm address) (requestOf op (now (path .entry)) (index .0) value))) (now (out .entry)) (r .number) (r .len) (now (out .exit)) ⌝ }
+    ensures { λ r. ⌜ Emits (writeRequest roomSerial (length (now (out .entry))) (serialForm address) (requestOf op (now (path .entry)) (index .0) value)) (now (out .entry)) (r .number) (r .len) (now (out .exit)) ⌝ }
 {
     if out.len() < ROOM_SERIAL {
         return Written {
@@ -109,7 +108,7 @@ pub fn write_serial(
 
 // A request written out in a datagram: 8, 10, 11 or 0.
 pub fn write_udp(op: u8, path: &[u8], index: PropertyIndex, value: u32, out: &mut [u8]) -> Written
-    ensures { λ r. ⌜ Emits (ifRoom roomUdp (length (now (out .entry))) (writeRequest udpForm (requestOf op (now (path .entry)) (index .0) value))) (now (out .entry)) (r .number) (r .len) (now (out .exit)) ⌝ }
+    ensures { λ r. ⌜ Emits (writeRequest roomUdp (length (now (out .entry))) udpForm (requestOf op (now (path .entry)) (index .0) value)) (now (out .entry)) (r .number) (r .len) (now (out .exit)) ⌝ }
 {
     if out.len() < ROOM_UDP {
         return Written {

@@ -6,10 +6,9 @@ use borrow.Author.Needs.{needs}
 use lib.ListN.{length}
 use Rattle.protocol.proofs.RequestLaws.{fitting, path-most, dataOf-size}
 use Rattle.protocol.specs.Numbers.{roomSerial}
-use Rattle.protocol.specs.Request.{Request, Allowed, serialForm}
-use Rattle.protocol.proofs.BufferLaws.{emits-no-room, emits-in-room}
+use Rattle.protocol.specs.Request.{Request, Allowed, dataOf, serialForm}
 use Rattle.request.specs.Asked.{requestOf}
-use Rattle.request.proofs.WriteLaws.{emits-unallowed, emits-allowed, put-front, put-within, part-size, emits-serial}
+use Rattle.request.proofs.WriteLaws.{emits-unroomed, emits-unallowed, emits-allowed, put-front, put-within, part-size, emits-serial}
 use Rattle.request.proofs.write.write_serial.Statement.{statement}
 use Rattle.request.proofs.write.write_serial.Tie as tie
 
@@ -30,7 +29,9 @@ within c =
     put-within (c .put-data .ensures) (omega (arith, dataOf-size (asked (origin else2)) (allowed else2)))
 
 returns : tie.Need-returns
-returns c = emits-no-room roomSerial _ _ _ (c .if1 .taken)
+returns c =
+    let start = c .before .before .before in
+    emits-unroomed roomSerial (serialForm (start .args .address)) (asked start) (start .args .out .now) (c .if1 .taken)
 
 allowance-of-requires : tie.Need-allowance-of-requires
 allowance-of-requires c κs = search needs
@@ -40,7 +41,8 @@ returns-2 c =
     let allowance = c .before in
     let else1 = allowance .before in
     let start = else1 .before .before .before in
-    emits-in-room (else1 .if1 .left) (emits-unallowed (serialForm (start .args .address)) (asked start) (allowance .allowance-of .ensures) (c .if2 .taken))
+    emits-unallowed roomSerial (serialForm (start .args .address)) (asked start) (start .args .out .now)
+    (else1 .if1 .left) (allowance .allowance-of .ensures) (c .if2 .taken)
 
 slice-aggregate-put-data : tie.Need-slice-aggregate-put-data
 slice-aggregate-put-data c = search needs
@@ -70,10 +72,9 @@ returns-3 c =
     let else2 = put .before .before in
     let else1 = else2 .before .before in
     let start = else1 .before .before .before in
-    emits-in-room (else1 .if1 .left)
-    (emits-allowed (serialForm (start .args .address)) (asked start) (else2 .before .allowance-of .ensures) (else2 .if2 .left)
-    (emits-serial (asked start) (allowed else2) (put-front (put .put-data .ensures)) (start .args .address) (else1 .if1 .left)
-    (written .write-frame .ensures)))
+    emits-allowed roomSerial (serialForm (start .args .address)) (asked start) (start .args .out .now) (else1 .if1 .left) (allowed else2)
+    (emits-serial (asked start) (allowed else2) (put-front {ys = dataOf (asked start)} (put .put-data .ensures)) (start .args .address) (else1 .if1 .left)
+    (written .write-frame .ensures))
 
 pub write-serial-spec : {M : Type 1} → statement M
 write-serial-spec =

@@ -6,10 +6,9 @@ use borrow.Author.Needs.{needs}
 use lib.ListN.{length}
 use Rattle.protocol.proofs.RequestLaws.{fitting, path-most, dataOf-size}
 use Rattle.protocol.specs.Numbers.{roomUdp}
-use Rattle.protocol.specs.Request.{Request, Allowed, udpForm}
-use Rattle.protocol.proofs.BufferLaws.{emits-no-room, emits-in-room}
+use Rattle.protocol.specs.Request.{Request, Allowed, dataOf, udpForm}
 use Rattle.request.specs.Asked.{requestOf}
-use Rattle.request.proofs.WriteLaws.{emits-unallowed, emits-allowed, put-front, put-within, part-size, emits-udp}
+use Rattle.request.proofs.WriteLaws.{emits-unroomed, emits-unallowed, emits-allowed, put-front, put-within, part-size, emits-udp}
 use Rattle.request.proofs.write.write_udp.Statement.{statement}
 use Rattle.request.proofs.write.write_udp.Tie as tie
 
@@ -30,7 +29,9 @@ within c =
     put-within (c .put-data .ensures) (omega (arith, dataOf-size (asked (origin else2)) (allowed else2)))
 
 returns : tie.Need-returns
-returns c = emits-no-room roomUdp _ _ _ (c .if1 .taken)
+returns c =
+    let start = c .before .before .before in
+    emits-unroomed roomUdp udpForm (asked start) (start .args .out .now) (c .if1 .taken)
 
 allowance-of-requires : tie.Need-allowance-of-requires
 allowance-of-requires c κs = search needs
@@ -40,7 +41,8 @@ returns-2 c =
     let allowance = c .before in
     let else1 = allowance .before in
     let start = else1 .before .before .before in
-    emits-in-room (else1 .if1 .left) (emits-unallowed udpForm (asked start) (allowance .allowance-of .ensures) (c .if2 .taken))
+    emits-unallowed roomUdp udpForm (asked start) (start .args .out .now)
+    (else1 .if1 .left) (allowance .allowance-of .ensures) (c .if2 .taken)
 
 slice-aggregate-put-data : tie.Need-slice-aggregate-put-data
 slice-aggregate-put-data c = search needs
@@ -70,10 +72,9 @@ returns-3 c =
     let else2 = put .before .before in
     let else1 = else2 .before .before in
     let start = else1 .before .before .before in
-    emits-in-room (else1 .if1 .left)
-    (emits-allowed udpForm (asked start) (else2 .before .allowance-of .ensures) (else2 .if2 .left)
-    (emits-udp (asked start) (allowed else2) (put-front (put .put-data .ensures)) (else1 .if1 .left)
-    (written .write-datagram .ensures)))
+    emits-allowed roomUdp udpForm (asked start) (start .args .out .now) (else1 .if1 .left) (allowed else2)
+    (emits-udp (asked start) (allowed else2) (put-front {ys = dataOf (asked start)} (put .put-data .ensures)) (else1 .if1 .left)
+    (written .write-datagram .ensures))
 
 pub write-udp-spec : {M : Type 1} → statement M
 write-udp-spec =
