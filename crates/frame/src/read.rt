@@ -196,7 +196,7 @@ pub fn check_frame(address: u8, s: &[u8]) -> Checked
 
 // Content bytes of a string, from a place on, copied to the front of an output: n of them, or as many as there are. Returns
 // how many.
-pub(crate) fn copy_content(s: &[u8], from: usize, n: usize, out: &mut [u8]) -> usize
+pub fn copy_content(s: &[u8], from: usize, n: usize, out: &mut [u8]) -> usize
     requires { ⌜ n ≤ length (now out) ⌝ }
     ensures { λ r. ⌜ Put 0 (contentFrom n (drop from (now (s .entry)))) (now (out .entry)) r (now (out .exit)) ⌝ }
 {

@@ -85,7 +85,7 @@ record Shape (op : ℕ) (bs : List ℕ) (r : Request) : Type 0 where
 abbrev asked : Request → Asked
 asked r = record { number = done; request = r }
 
-askedIf-by : (r : Request) (t : Bool) → fits r ≡ t → askedIf r ≡ cond t (asked r) (declined badParameter)
+pub askedIf-by : (r : Request) (t : Bool) → fits r ≡ t → askedIf r ≡ cond t (asked r) (declined badParameter)
 unfolding askedIf
 askedIf-by r t e = rw e
 
@@ -170,7 +170,7 @@ read op bs r a e h shape =
     let p : (askedIf r ≡ asked r) × (fits r ≡ true) = askedIf-only r (sym (ap (λ a. a .number) e) ∙ h) in
     rw (e ∙ p .0) (record { is = refl; shape = shape (p .1) })
 
-readValued-by : (op : ℕ) (bs : List ℕ) (t : Bool) → eqb (length (drop (suc (beforeZero bs)) bs)) 4 ≡ t
+pub readValued-by : (op : ℕ) (bs : List ℕ) (t : Bool) → eqb (length (drop (suc (beforeZero bs)) bs)) 4 ≡ t
     → readValued op bs
     ≡ cond t (askedIf (onIndex op (number (drop (suc (beforeZero bs)) bs)) (take (beforeZero bs) bs))) (declined badParameter)
 unfolding readValued readIndexed
@@ -194,7 +194,7 @@ readValued-only op bs all v h = go (eqb (length back) 4) refl
         read op bs (onIndex op (number back) front) (readValued op bs) (readValued-by op bs true e) h
         (value-shape op bs front back v parted (word-of-four back four (bytes-drop (suc (beforeZero bs)) bs all)))
 
-readShape-by : (op : ℕ) (bs : List ℕ) (t u : Bool) → asksValue op ≡ t → asksIndex op ≡ u
+pub readShape-by : (op : ℕ) (bs : List ℕ) (t u : Bool) → asksValue op ≡ t → asksIndex op ≡ u
     → readShape op bs ≡ cond t (readValued op bs) (cond u (askedIf (onIndex op 0 bs)) (askedIf (onPath op bs)))
 unfolding readShape readIndexed
 readShape-by op bs t u e f = rw (e, f)
@@ -221,12 +221,12 @@ pub record Says (form : Request → List ℕ) (s : List ℕ) (a : Asked) : Type 
 abbrev isCommand : ℕ → ℕ → Bool
 isCommand c op = eqb c PDI && leb op opWriteExtended
 
-readRequest-by : (c op : ℕ) (bs : List ℕ) (t : Bool) → isCommand c op ≡ t
+pub readRequest-by : (c op : ℕ) (bs : List ℕ) (t : Bool) → isCommand c op ≡ t
     → readRequest (c ∷ op ∷ bs) ≡ cond t (readShape op bs) (declined unknownCommand)
 unfolding readRequest
 readRequest-by c op bs t e = rw e
 
-readRequest-one : (c : ℕ) (t : Bool) → eqb c PDI ≡ t
+pub readRequest-one : (c : ℕ) (t : Bool) → eqb c PDI ≡ t
     → readRequest (c ∷ []) ≡ cond t (declined badParameter) (declined unknownCommand)
 unfolding readRequest
 readRequest-one c t e = rw e
@@ -398,7 +398,7 @@ record Carrier (form : List ℕ → List ℕ) (reads : List ℕ → Received) : 
   only : (s : List ℕ) → reads s .number ≡ done → Written form s (reads s .payload)
   bytes : (d : List ℕ) → Bytes (form d) → Bytes d
 
-readPayload-by : (p : Received) (t : Bool) → eqb (p .number) done ≡ t
+pub readPayload-by : (p : Received) (t : Bool) → eqb (p .number) done ≡ t
     → readPayload p ≡ cond t (readRequest (p .payload)) (declined (p .number))
 unfolding readPayload
 readPayload-by p t e = rw e

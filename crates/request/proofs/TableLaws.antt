@@ -1,0 +1,174 @@
+-- The table of requests: where the first zero stands, what a path is, and what fits an op.
+-- Assumes nothing.
+use Prim.Native.Nat.{ℕ, zero, suc, _+_, _-_, _<_, _≤_}
+use native.Mathlib.Omega.{arith}
+use native.Mathlib.Nat.{zero-add}
+use native.Mathlib.Numerals.{add-one}
+use native.Mathlib.Decide.{decLt}
+use mathlib.Core.Path.{_≡_, refl, sym, ap, ap₂, subst, _∙_}
+use mathlib.Core.Bool.{Bool, true, false, cond, _&&_}
+use mathlib.Core.List.{List, [], _∷_, _++_}
+use borrow.Author.Tests.{eqb-true, eqb-false, eq-eqb, ne-eqb, lt-ltb, le-ltb, le-leb, lt-leb}
+use lib.ListN.{length, getD, take, drop, length-drop, drop-of-length-le}
+use lib.Seq.{drop-cons}
+use lib.Dec.{eqb, ltb, leb}
+use Rattle.protocol.specs.Numbers.{done, unknownCommand, badParameter, opDetect, opNode, opRead, opWriteExtended, maxDepth, byteEnd, wordEnd}
+use Rattle.protocol.specs.Bytes.{Bytes, every}
+use Rattle.protocol.specs.Request.{Request, nonzero, isPath, asksPath, asksIndex, asksValue, pathFits, indexFits, valueFits, fits, allowance, beforeZero}
+use Rattle.protocol.proofs.TestLaws.{eqb-same}
+
+-- The first zero, by the first byte.
+zero-first : (b : ℕ) (bs : List ℕ) → b ≡ 0 → beforeZero (b ∷ bs) ≡ 0
+unfolding beforeZero
+zero-first b bs e = rw (eq-eqb b 0 e)
+
+zero-later : (b : ℕ) (bs : List ℕ) → (b ≡ 0 → ⊥) → beforeZero (b ∷ bs) ≡ suc (beforeZero bs)
+unfolding beforeZero
+zero-later b bs e = rw (ne-eqb b 0 e)
+
+zero-none : beforeZero [] ≡ 0
+unfolding beforeZero
+zero-none = refl
+
+-- The search for it: up to a place nothing is found yet, or the end is where the first zero stands.
+pub record Seeking (bs : List ℕ) (end i : ℕ) : Type 0 where
+  pub within : end ≤ length bs
+  pub seen : end < i → end ≡ beforeZero bs
+  pub unseen : i ≤ end → (end ≡ length bs) × (beforeZero bs ≡ i + beforeZero (drop i bs))
+
+pub seek-begins : (bs : List ℕ) → Seeking bs (length bs) 0
+seek-begins bs =
+    record { within = omega arith; seen = λ h. absurd (omega (arith, h)); unseen = λ h. (refl, sym (zero-add (beforeZero bs))) }
+
+module _ (bs : List ℕ) {end i : ℕ} (s : Seeking bs end i) where
+  pub seek-more : i < end → (getD bs i 0 ≡ 0 → ⊥) → {end′ : ℕ} → end′ ≡ end → Seeking bs end′ (i + 1)
+  seek-more h e f =
+      let here : (end ≡ length bs) × (beforeZero bs ≡ i + beforeZero (drop i bs)) = s .unseen (omega (arith, h)) in
+      let next : beforeZero (drop i bs) ≡ suc (beforeZero (drop (suc i) bs)) =
+      ap beforeZero (drop-cons bs i 0 (omega (arith, h, here .0))) ∙ zero-later (getD bs i 0) (drop (suc i) bs) e in
+      record {
+        within = omega (arith, f, s .within);
+        seen = λ k. absurd (omega (arith, f, h, k));
+        unseen = λ k. (f ∙ here .0, omega (arith, here .1, next, ap (λ n. beforeZero (drop n bs)) (add-one i)));
+      }
+
+  pub seek-found : i < end → getD bs i 0 ≡ 0 → {end′ : ℕ} → end′ ≡ i → Seeking bs end′ (i + 1)
+  seek-found h e f =
+      let here : (end ≡ length bs) × (beforeZero bs ≡ i + beforeZero (drop i bs)) = s .unseen (omega (arith, h)) in
+      let none : beforeZero (drop i bs) ≡ 0 =
+      ap beforeZero (drop-cons bs i 0 (omega (arith, h, here .0))) ∙ zero-first (getD bs i 0) (drop (suc i) bs) e in
+      record {
+        within = omega (arith, f, h, s .within);
+        seen = λ k. omega (arith, f, here .1, none);
+        unseen = λ k. absurd (omega (arith, f, k));
+      }
+
+  pub seek-ends : end ≤ i → end ≡ beforeZero bs
+  seek-ends h = go (decLt end i)
+    where
+      go : Dec (end < i) → end ≡ beforeZero bs
+      go (yes k) = s .seen k
+      go (no k) =
+          let here : (end ≡ length bs) × (beforeZero bs ≡ i + beforeZero (drop i bs)) = s .unseen (omega (arith, k)) in
+          let none : beforeZero (drop i bs) ≡ 0 =
+          ap beforeZero (drop-of-length-le bs {i = i} (omega (arith, h, here .0))) ∙ zero-none in
+          omega (arith, h, k, here .1, none)
+
+-- Bytes are nonzero, all of them, where no zero stands before their end.
+pub zero-within : (bs : List ℕ) → beforeZero bs ≤ length bs
+unfolding beforeZero
+zero-within [] = omega arith
+zero-within (b ∷ bs) = go (eqb b 0) refl (zero-within bs)
+  where
+    go : (t : Bool) → eqb b 0 ≡ t → beforeZero bs ≤ length bs → cond t 0 (suc (beforeZero bs)) ≤ suc (length bs)
+    go true e h = omega arith
+    go false e h = omega arith
+
+nonzero-by : (b : ℕ) → b < byteEnd → nonzero b ≡ ltb 0 b
+nonzero-by b h = rw (lt-ltb b byteEnd h) (go (ltb 0 b))
+  where
+    go : (t : Bool) → (t && true) ≡ t
+    go true = refl
+    go false = refl
+
+pub nonzeros : (bs : List ℕ) → Bytes bs → eqb (beforeZero bs) (length bs) ≡ every nonzero bs
+unfolding beforeZero every
+nonzeros [] all = refl
+nonzeros (b ∷ bs) all = go (eqb b 0) refl (nonzeros bs (λ i. all (suc i)))
+  where
+    go : (t : Bool) → eqb b 0 ≡ t → eqb (beforeZero bs) (length bs) ≡ every nonzero bs
+        → eqb (beforeZero (b ∷ bs)) (length (b ∷ bs)) ≡ (nonzero b && every nonzero bs)
+    go true e ih =
+        ap (λ n. eqb n (suc (length bs))) (zero-first b bs (eqb-true b 0 e))
+        ∙ ne-eqb 0 (suc (length bs)) (λ h. omega (arith, h))
+        ∙ sym (ap (λ t. t && every nonzero bs) (nonzero-by b (all 0) ∙ le-ltb 0 b (omega (arith, eqb-true b 0 e))))
+    go false e ih =
+        let positive : nonzero b ≡ true =
+        nonzero-by b (all 0) ∙ lt-ltb 0 b (omega (arith, eqb-false b 0 e)) in
+        ap (λ n. eqb n (suc (length bs))) (zero-later b bs (eqb-false b 0 e))
+        ∙ eqb-same (suc (beforeZero bs)) (suc (length bs)) (beforeZero bs) (length bs) (λ h. omega (arith, h)) (λ h. ap suc h)
+        ∙ ih
+        ∙ sym (ap (λ t. t && every nonzero bs) positive)
+
+-- A path, test by test.
+pub path-empty : (bs : List ℕ) → length bs < 1 → false ≡ isPath bs
+unfolding isPath
+path-empty bs h = sym (rw (lt-leb 1 (length bs) h))
+
+pub path-long : (bs : List ℕ) → 1 ≤ length bs → maxDepth < length bs → false ≡ isPath bs
+unfolding isPath
+path-long bs h k = sym (rw (le-leb 1 (length bs) h, lt-leb (length bs) maxDepth k))
+
+pub path-by-zero : (bs : List ℕ) → Bytes bs → 1 ≤ length bs → length bs ≤ maxDepth → {n : ℕ} → n ≡ beforeZero bs → eqb n (length bs) ≡ isPath bs
+unfolding isPath
+path-by-zero bs all h k e =
+    ap (λ m. eqb m (length bs)) e ∙ nonzeros bs all ∙ sym (rw (le-leb 1 (length bs) h, le-leb (length bs) maxDepth k))
+
+-- What fits, part by part.
+module _ (op : ℕ) where
+  pub path-asked : (bs : List ℕ) {t : Bool} → opDetect < op → t ≡ isPath bs → t ≡ pathFits op bs
+  path-asked bs h e = e ∙ sym (rw (lt-ltb opDetect op h))
+
+  pub path-unasked : (bs : List ℕ) → op ≤ opDetect → eqb (length bs) 0 ≡ pathFits op bs
+  path-unasked bs h = sym (rw (le-ltb opDetect op h))
+
+  pub index-asked : (i : ℕ) → i < byteEnd → opNode < op → ltb 0 i ≡ indexFits op i
+  index-asked i b h = sym (rw (lt-ltb opNode op h) (nonzero-by i b))
+
+  pub index-unasked : (i : ℕ) → op ≤ opNode → eqb i 0 ≡ indexFits op i
+  index-unasked i h = sym (rw (le-ltb opNode op h))
+
+  pub value-asked : (v : ℕ) → v < wordEnd → opRead < op → true ≡ valueFits op v
+  value-asked v b h = sym (rw (lt-ltb opRead op h) (lt-ltb v wordEnd b))
+
+  pub value-unasked : (v : ℕ) → op ≤ opRead → eqb v 0 ≡ valueFits op v
+  value-unasked v h = sym (rw (le-ltb opRead op h))
+
+-- All of it.
+module _ (r : Request) where
+  pub fits-not-path : {t : Bool} → t ≡ pathFits (r .op) (r .path) → t ≡ false → false ≡ fits r
+  unfolding fits
+  fits-not-path e h = sym (rw (sym e ∙ h))
+
+  pub fits-not-index : {t u : Bool} → t ≡ pathFits (r .op) (r .path) → t ≡ true → u ≡ indexFits (r .op) (r .index) → u ≡ false
+      → false ≡ fits r
+  unfolding fits
+  fits-not-index e h f k = sym (rw (sym e ∙ h, sym f ∙ k))
+
+  pub fits-value : {t u v : Bool} → t ≡ pathFits (r .op) (r .path) → t ≡ true → u ≡ indexFits (r .op) (r .index) → u ≡ true
+      → v ≡ valueFits (r .op) (r .value) → v ≡ fits r
+  unfolding fits
+  fits-value e h f k g = g ∙ sym (rw (sym e ∙ h, sym f ∙ k))
+
+  -- What writing answers.
+  pub allow-unknown : opWriteExtended < r .op → unknownCommand ≡ allowance r
+  unfolding allowance
+  allow-unknown h = sym (rw (lt-ltb opWriteExtended (r .op) h))
+
+  pub allow-unfit : r .op ≤ opWriteExtended → {t : Bool} → t ≡ fits r → t ≡ false → badParameter ≡ allowance r
+  unfolding allowance
+  allow-unfit h e f = sym (rw (le-ltb opWriteExtended (r .op) h, sym e ∙ f))
+
+  pub allow-fit : r .op ≤ opWriteExtended → {t : Bool} → t ≡ fits r → t ≡ true → done ≡ allowance r
+  unfolding allowance
+  allow-fit h e f = sym (rw (le-ltb opWriteExtended (r .op) h, sym e ∙ f))

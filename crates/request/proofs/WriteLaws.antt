@@ -1,0 +1,128 @@
+-- Bytes, numbers and the data of a request, put into a buffer.
+-- Assumes nothing.
+use Prim.Native.Nat.{ℕ, zero, suc, _+_, _-_, _<_, _≤_}
+use native.Mathlib.Omega.{arith}
+use native.Mathlib.Numerals.{add-one}
+use mathlib.Core.Path.{_≡_, refl, sym, ap, ap₂, subst, _∙_}
+use mathlib.Core.List.{List, [], _∷_, _++_, append-assoc, append-nil}
+use borrow.Author.Tests.{eq-eqb, ne-eqb, lt-ltb, le-ltb}
+use lib.ListN.{length, getD, take, drop, length-append, length-take}
+use lib.Seq.{take-suc, take-all, take-at, length-take-le}
+use Rattle.protocol.specs.Numbers.{done, noRoom, roomSerial, roomUdp, PDI, opNode, opRead}
+use Rattle.protocol.specs.Bytes.{word}
+use Rattle.protocol.specs.Frame.{Received, received, refused, frame, datagram, ifSized, ifDone, ifRoom, writeFrame, writeDatagram}
+use Rattle.protocol.specs.Buffer.{putAt, Put, Emits}
+use Rattle.protocol.specs.Request.{Request, allowance, Allowed, dataOf, serialForm, udpForm}
+use Rattle.protocol.proofs.BufferLaws.{put-nil, puts, put-room, length-put, emits-refused, emits-no-room, emits-in-room}
+use Rattle.protocol.proofs.FrameLaws.{ifSized-sized}
+use Rattle.protocol.proofs.RequestLaws.{dataOf-sized}
+use Rattle.request.specs.Asked.{requestOf}
+use Rattle.request.specs.Write.{writeRequest}
+
+-- Bytes put one behind the other from a place on.
+pub record Filling (bs old : List ℕ) (at : ℕ) (out : List ℕ) (next i : ℕ) : Type 0 where
+  pub within : i ≤ length bs
+  pub put : Put at (take i bs) old next out
+
+module _ (bs old : List ℕ) (at : ℕ) (room : at + length bs ≤ length old) where
+  pub fill-begins : Filling bs old at old at 0
+  fill-begins = record { within = omega arith; put = put-nil at old }
+
+  pub fill-more : {out out′ : List ℕ} {next next′ i : ℕ} → Filling bs old at out next i → i < length bs
+      → Put next (getD bs i 0 ∷ []) out next′ out′ → Filling bs old at out′ next′ (i + 1)
+  fill-more {out′ = out′} {next′ = next′} {i = i} f h p =
+      record {
+        within = omega arith;
+        put =
+            subst (λ l. Put at l old next′ out′)
+            (sym (ap (λ n. take n bs) (add-one i) ∙ take-suc bs i 0 h))
+            (puts (omega arith) (f .put) p);
+      }
+
+  pub fill-same : {out : List ℕ} {next i : ℕ} → Filling bs old at out next i → length out ≡ length old
+  fill-same {i = i} f =
+      ap length (f .put .bytes) ∙ length-put old at (take i bs) (omega (arith, length-take i bs))
+
+  pub fill-room : {out : List ℕ} {next i : ℕ} → Filling bs old at out next i → i < length bs → next < length out
+  fill-room {i = i} f h = omega (arith, fill-same f, f .put .next, length-take i bs)
+
+  pub fill-ends : {out : List ℕ} {next i : ℕ} → Filling bs old at out next i → length bs ≤ i → Put at bs old next out
+  fill-ends {out} {next} {i} f h = subst (λ l. Put at l old next out) (take-all i bs h) (f .put)
+
+-- The data of a request by what its op asks for.
+module _ (op : ℕ) (path : List ℕ) (index value : ℕ) where
+  pub data-path : op ≤ opNode → PDI ∷ op ∷ path ≡ dataOf (requestOf op path index value)
+  unfolding dataOf
+  data-path h =
+      sym (rw (le-ltb opNode op h, le-ltb opRead op (omega (arith, h))) (ap (λ l. PDI ∷ op ∷ l) (append-nil path)))
+
+  pub data-index : opNode < op → op ≤ opRead → PDI ∷ op ∷ (path ++ index ∷ []) ≡ dataOf (requestOf op path index value)
+  unfolding dataOf
+  data-index h k = sym (rw (lt-ltb opNode op h, le-ltb opRead op k))
+
+  pub data-value : opRead < op → PDI ∷ op ∷ (((path ++ index ∷ []) ++ 0 ∷ []) ++ word value) ≡ dataOf (requestOf op path index value)
+  unfolding dataOf
+  data-value h =
+      sym (rw (lt-ltb opNode op (omega (arith, h)), lt-ltb opRead op h)
+      (ap (λ l. PDI ∷ op ∷ l)
+      (sym (append-assoc (path ++ index ∷ []) (0 ∷ []) (word value) ∙ append-assoc path (index ∷ []) (0 ∷ word value)))))
+
+-- Data that was put, for what it is.
+pub put-as : {at r : ℕ} {ys zs old new : List ℕ} → ys ≡ zs → Put at ys old r new → Put at zs old r new
+put-as {at} {r} {old = old} {new = new} e p = subst (λ l. Put at l old r new) e p
+
+-- A request written out: with no room, what the table does not allow, and what it allows.
+module _ (least : ℕ) (form : Request → List ℕ) (r : Request) (old : List ℕ) where
+  pub emits-unroomed : length old < least → Emits (writeRequest least (length old) form r) old noRoom 0 old
+  unfolding writeRequest
+  emits-unroomed h = emits-no-room least (length old) (ifDone (allowance r) (received (form r))) old h
+
+  pub emits-unallowed : least ≤ length old → {n : ℕ} → n ≡ allowance r → (n ≡ done → ⊥)
+      → Emits (writeRequest least (length old) form r) old n 0 old
+  unfolding writeRequest
+  emits-unallowed room {n} e h =
+      emits-in-room room
+      (rw (ne-eqb (allowance r) done (λ d. h (e ∙ d)))
+      (subst (λ m. Emits (refused m) old n 0 old) e (emits-refused n old)))
+
+  pub emits-allowed : least ≤ length old → Allowed r → {n size : ℕ} {new : List ℕ} → Emits (received (form r)) old n size new
+      → Emits (writeRequest least (length old) form r) old n size new
+  unfolding writeRequest
+  emits-allowed room h p = emits-in-room room (rw (eq-eqb (allowance r) done h) p)
+
+-- The part of a buffer that holds what was put from its front on.
+pub put-front : {ys old new : List ℕ} {k : ℕ} → Put 0 ys old k new → take k new ≡ ys
+unfolding putAt
+put-front {ys} {old} {new} {k} p =
+    ap (take k) (p .bytes) ∙ take-at ys (drop (0 + length ys) old) k (omega (arith, p .next))
+
+pub put-within : {ys old new : List ℕ} {k : ℕ} → Put 0 ys old k new → length ys ≤ length old → k ≤ length new
+put-within p h = omega (arith, put-room p 0 (omega (arith, h)))
+
+pub part-size : (k : ℕ) (l : List ℕ) → k ≤ length l → k ≡ length (take k l)
+part-size k l h = sym (length-take-le k l h)
+
+-- The data of an allowed request is of a good size, so that where there is room it is written in its form.
+unroomed : {least room : ℕ} {w : Received} {old new : List ℕ} {n size : ℕ} → least ≤ room → Emits (ifRoom least room w) old n size new
+    → Emits w old n size new
+unfolding ifRoom
+unroomed {least} {room} h e = rw (le-ltb room least h) at e
+
+emits-form : (form : List ℕ → List ℕ) (least : ℕ) (r : Request) → Allowed r → {d old new : List ℕ} {n size : ℕ} → d ≡ dataOf r
+    → least ≤ length old → Emits (ifRoom least (length old) (ifSized d (received (form d)))) old n size new
+    → Emits (received (form (dataOf r))) old n size new
+emits-form form least r allowed {d} {old} {new} {n} {size} is h e =
+    subst (λ w. Emits w old n size new)
+    (ap (λ l. ifSized l (received (form l))) is ∙ ifSized-sized (dataOf r) (received (form (dataOf r))) (dataOf-sized r allowed))
+    (unroomed h e)
+
+module _ (r : Request) (allowed : Allowed r) {d old new : List ℕ} {n size : ℕ} (is : d ≡ dataOf r) where
+  pub emits-serial : (a : ℕ) → roomSerial ≤ length old
+      → Emits (ifRoom roomSerial (length old) (writeFrame a d)) old n size new → Emits (received (serialForm a r)) old n size new
+  unfolding serialForm
+  emits-serial a h e = emits-form (frame a) roomSerial r allowed is h e
+
+  pub emits-udp : roomUdp ≤ length old → Emits (ifRoom roomUdp (length old) (writeDatagram d)) old n size new
+      → Emits (received (udpForm r)) old n size new
+  unfolding udpForm
+  emits-udp h e = emits-form datagram roomUdp r allowed is h e

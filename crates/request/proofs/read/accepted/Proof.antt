@@ -1,0 +1,28 @@
+-- `request::read::accepted` meets its contract. Assumes nothing.
+use native.Mathlib.Omega.{arith}
+use mathlib.Core.Path.{refl}
+use borrow.Author.Needs.{needs}
+use Rattle.request.proofs.ReadLaws.{padded-put}
+use Rattle.request.proofs.read.accepted.Statement.{statement}
+use Rattle.request.proofs.read.accepted.Tie as tie
+
+slice-aggregate-put-all : tie.Need-slice-aggregate-put-all
+slice-aggregate-put-all c = search needs
+
+put-all-requires : tie.Need-put-all-requires
+put-all-requires c κs = search needs
+
+returns : tie.Need-returns
+returns c =
+    let put = c .before in
+    record {
+      number = refl;
+      op = refl;
+      path = padded-put (put .put-all .ensures);
+      len = omega (arith, put .put-all .ensures .next);
+      index = refl;
+      value = refl;
+    }
+
+pub accepted-spec : {M : Type 1} → statement M
+accepted-spec = tie.close (tie.spec slice-aggregate-put-all put-all-requires returns)

@@ -1,0 +1,126 @@
+// Requests, written out.
+use super::BAD_PARAMETER;
+use super::OP_NODE;
+use super::OP_READ;
+use super::OP_WRITE_EXTENDED;
+use super::PDI;
+use super::UNKNOWN_COMMAND;
+use super::table;
+use frame::Written;
+use frame::buffer;
+use protocol::DONE;
+use protocol::NO_ROOM;
+use protocol::PropertyIndex;
+use protocol::ROOM_SERIAL;
+use protocol::ROOM_UDP;
+ghost use mathlib.Core.Path.{_≡_};
+ghost use Prim.Native.Nat.{_+_, _≤_};
+ghost use lib.ListN.{length};
+ghost use Rattle.protocol.specs.Numbers.{roomSerial, roomUdp};
+ghost use Rattle.protocol.specs.Bytes.{word};
+ghost use Rattle.protocol.specs.Buffer.{Put, Emits};
+ghost use Rattle.protocol.specs.Request.{allowance, dataOf, serialForm, udpForm};
+ghost use Rattle.request.specs.Asked.{requestOf};
+ghost use Rattle.request.specs.Write.{writeRequest};
+
+// Bytes put at a place. Returns the next place.
+pub(crate) fn put_all(bs: &[u8], out: &mut [u8], at: usize) -> usize
+    requires { ⌜ at + length (now bs) ≤ length (now out) ⌝ }
+    ensures { λ r. ⌜ Put at (now (bs .entry)) (now (out .entry)) r (now (out .exit)) ⌝ }
+{
+    let mut next = at;
+    let mut i = 0;
+    while i < bs.len() {
+        next = buffer::put(out, next, bs[i]);
+        i += 1;
+    }
+    next
+}
+
+// A number of 32 bits put at a place, the high byte first.
+fn put_word(out: &mut [u8], at: usize, n: u32) -> usize
+    requires { ⌜ at + 4 ≤ length (now out) ⌝ }
+    ensures { λ r. ⌜ Put at (word n) (now (out .entry)) r (now (out .exit)) ⌝ }
+{
+    let a = buffer::put(out, at, (n / 16777216 % 256) as u8);
+    let b = buffer::put(out, a, (n / 65536 % 256) as u8);
+    let c = buffer::put(out, b, (n / 256 % 256) as u8);
+    buffer::put(out, c, (n % 256) as u8)
+}
+
+// The data of a request, from the front of an output that has room for it.
+fn put_data(op: u8, path: &[u8], index: PropertyIndex, value: u32, out: &mut [u8]) -> usize
+    requires { ⌜ (length (now path) ≤ 16) × (24 ≤ length (now out)) ⌝ }
+    ensures { λ r. ⌜ Put 0 (dataOf (requestOf op (now (path .entry)) (index .0) value)) (now (out .entry)) r (now (out .exit)) ⌝ }
+{
+    let commanded = buffer::put(out, 0, PDI);
+    let named = buffer::put(out, commanded, op);
+    let addressed = put_all(path, out, named);
+    if op <= OP_NODE {
+        return addressed;
+    }
+    let indexed = buffer::put(out, addressed, index.0);
+    if op <= OP_READ {
+        return indexed;
+    }
+    let parted = buffer::put(out, indexed, 0);
+    put_word(out, parted, value)
+}
+
+// What a request is answered with when it is written out: 10, 11 or 0.
+fn allowance_of(op: u8, path: &[u8], index: PropertyIndex, value: u32) -> u8
+    ensures { λ r. ⌜ r ≡ allowance (requestOf op (now (path .entry)) (index .0) value) ⌝ }
+{
+    if OP_WRITE_EXTENDED < op {
+        return UNKNOWN_COMMAND;
+    }
+    if !table::all_fit(op, path, index, value) {
+        return BAD_PARAMETER;
+    }
+    DONE
+}
+
+// A request written out in a frame for an address: 8, 10, 11 or 0.
+pub fn write_serial(
+    address: u8,
+    op: u8,
+    path: &[u8],
+    index: PropertyIndex,
+    value: u32,
+    out: &mut [u8],
+) -> Written
+    ensures { λ r. ⌜ Emits (writeRequest roomSerial (length (now (out .entry))) (serialForm address) (requestOf op (now (path .entry)) (index .0) value)) (now (out .entry)) (r .number) (r .len) (now (out .exit)) ⌝ }
+{
+    if out.len() < ROOM_SERIAL {
+        return Written {
+            number: NO_ROOM,
+            len: 0,
+        };
+    }
+    let number = allowance_of(op, path, index, value);
+    if number != DONE {
+        return Written { number, len: 0 };
+    }
+    let mut payload = [0u8; 24];
+    let n = put_data(op, path, index, value, &mut payload);
+    frame::write::write_frame(address, &payload[..n], out)
+}
+
+// A request written out in a datagram: 8, 10, 11 or 0.
+pub fn write_udp(op: u8, path: &[u8], index: PropertyIndex, value: u32, out: &mut [u8]) -> Written
+    ensures { λ r. ⌜ Emits (writeRequest roomUdp (length (now (out .entry))) udpForm (requestOf op (now (path .entry)) (index .0) value)) (now (out .entry)) (r .number) (r .len) (now (out .exit)) ⌝ }
+{
+    if out.len() < ROOM_UDP {
+        return Written {
+            number: NO_ROOM,
+            len: 0,
+        };
+    }
+    let number = allowance_of(op, path, index, value);
+    if number != DONE {
+        return Written { number, len: 0 };
+    }
+    let mut payload = [0u8; 24];
+    let n = put_data(op, path, index, value, &mut payload);
+    frame::udp::write_datagram(&payload[..n], out)
+}
