@@ -3,3 +3,4 @@ pub mod TableLaws
 pub mod WriteLaws
 pub mod ReadLaws
 pub mod Exact
+pub mod Demand3
