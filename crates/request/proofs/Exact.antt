@@ -5,12 +5,12 @@ use Prim.Native.Nat.{ℕ, _≤_}
 use mathlib.Core.Logic.{_↔_}
 use mathlib.Core.Path.{_≡_, refl, sym, ap, ap₂, subst, _∙_}
 use mathlib.Core.Bool.{Bool, true, false}
-use mathlib.Core.List.{List, _++_}
+use mathlib.Core.List.{List}
 use borrow.Author.Tests.{eq-eqb, eqb-true, le-ltb}
 use lib.ListN.{length, take, drop, take-append-drop}
 use lib.Seq.{take-at, drop-at}
 use lib.Dec.{eqb}
-use Rattle.protocol.specs.Numbers.{done, maxDepth, roomSerial, roomUdp}
+use Rattle.protocol.specs.Numbers.{done, roomSerial, roomUdp}
 use Rattle.protocol.specs.Bytes.{Bytes}
 use Rattle.protocol.specs.Frame.{ifRoom, ifDone, received, refused}
 use Rattle.protocol.specs.Buffer.{over, Emits}

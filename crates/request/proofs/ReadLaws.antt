@@ -2,20 +2,20 @@
 -- Assumes nothing.
 use Prim.Native.Nat.{ℕ, zero, suc, _+_, _-_, _*_, _^_, _<_, _≤_}
 use native.Mathlib.Omega.{arith}
-use native.Mathlib.Nat.{add-zero, not-suc-le-zero, le-of-suc-le-suc}
+use native.Mathlib.Nat.{not-suc-le-zero, le-of-suc-le-suc}
 use native.Mathlib.Numerals.{add-one}
 use native.Mathlib.Decide.{decLe}
 use mathlib.Core.Path.{_≡_, refl, sym, ap, ap₂, subst, _∙_}
-use mathlib.Core.Bool.{Bool, true, false, cond, _&&_}
-use mathlib.Core.List.{List, [], _∷_, _++_}
-use borrow.Author.Tests.{eqb-true, eqb-false, ltb-true, eq-eqb, ne-eqb, lt-ltb, le-ltb, le-leb, lt-leb}
+use mathlib.Core.Bool.{Bool, true, false, _&&_}
+use mathlib.Core.List.{List, [], _∷_}
+use borrow.Author.Tests.{eqb-true, eq-eqb, ne-eqb, lt-ltb, le-ltb, le-leb, lt-leb}
 use lib.ListN.{length, getD, take, drop, replicate, length-take, length-drop}
-use lib.Seq.{take-all, take-at, getD-drop, length-take-le}
-use lib.Dec.{eqb, ltb, leb}
+use lib.Seq.{take-all}
+use lib.Dec.{eqb, leb}
 use Rattle.protocol.specs.Numbers.{done, unknownCommand, badParameter, PDI, opNode, opRead, opWriteExtended, maxDepth}
 use Rattle.protocol.specs.Bytes.{numberAfter, number}
 use Rattle.protocol.specs.Frame.{doubled, Received, readFrame, readDatagram}
-use Rattle.protocol.specs.Buffer.{over, putAt, Put}
+use Rattle.protocol.specs.Buffer.{over, Put}
 use Rattle.protocol.specs.Request.{Request, Asked, asksIndex, asksValue, fits, declined, askedIf, beforeZero, readIndexed, readValued, readShape, readRequest, readPayload, readSerial, readUdp}
 use Rattle.protocol.proofs.BufferLaws.{over-put, part-lent}
 use Rattle.protocol.proofs.RequestLaws.{askedIf-by, readValued-by, readShape-by, readRequest-by, readRequest-one, readPayload-by, path-most}

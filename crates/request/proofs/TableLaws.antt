@@ -1,20 +1,20 @@
 -- The table of requests: where the first zero stands, what a path is, and what fits an op.
 -- Assumes nothing.
-use Prim.Native.Nat.{ℕ, zero, suc, _+_, _-_, _<_, _≤_}
+use Prim.Native.Nat.{ℕ, suc, _+_, _<_, _≤_}
 use native.Mathlib.Omega.{arith}
 use native.Mathlib.Nat.{zero-add}
 use native.Mathlib.Numerals.{add-one}
 use native.Mathlib.Decide.{decLt}
-use mathlib.Core.Path.{_≡_, refl, sym, ap, ap₂, subst, _∙_}
+use mathlib.Core.Path.{_≡_, refl, sym, ap, _∙_}
 use mathlib.Core.Bool.{Bool, true, false, cond, _&&_}
-use mathlib.Core.List.{List, [], _∷_, _++_}
+use mathlib.Core.List.{List, [], _∷_}
 use borrow.Author.Tests.{eqb-true, eqb-false, eq-eqb, ne-eqb, lt-ltb, le-ltb, le-leb, lt-leb}
-use lib.ListN.{length, getD, take, drop, length-drop, drop-of-length-le}
+use lib.ListN.{length, getD, drop, drop-of-length-le}
 use lib.Seq.{drop-cons}
-use lib.Dec.{eqb, ltb, leb}
+use lib.Dec.{eqb, ltb}
 use Rattle.protocol.specs.Numbers.{done, unknownCommand, badParameter, opDetect, opNode, opRead, opWriteExtended, maxDepth, byteEnd, wordEnd}
 use Rattle.protocol.specs.Bytes.{Bytes, every}
-use Rattle.protocol.specs.Request.{Request, nonzero, isPath, asksPath, asksIndex, asksValue, pathFits, indexFits, valueFits, fits, allowance, beforeZero}
+use Rattle.protocol.specs.Request.{Request, nonzero, isPath, pathFits, indexFits, valueFits, fits, allowance, beforeZero}
 use Rattle.protocol.proofs.TestLaws.{eqb-same}
 
 -- The first zero, by the first byte.

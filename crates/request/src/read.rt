@@ -13,7 +13,6 @@ use protocol::PropertyIndex;
 ghost use mathlib.Core.Path.{_≡_};
 ghost use Prim.Native.Nat.{_+_, _-_, _*_, _≤_, _<_, _^_};
 ghost use lib.ListN.{length};
-ghost use Rattle.protocol.specs.Numbers.{done, opWriteExtended};
 ghost use Rattle.protocol.specs.Bytes.{number};
 ghost use Rattle.protocol.specs.Request.{declined, askedIf, readIndexed, readValued, readShape, readRequest, readSerial, readUdp};
 ghost use Rattle.request.specs.Asked.{AskedIs, requestOf, found};
