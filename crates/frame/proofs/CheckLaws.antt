@@ -2,14 +2,14 @@
 -- Assumes nothing.
 use Prim.Native.Nat.{ℕ, zero, suc, _+_, _-_, _%_, _^_, _<_, _≤_}
 use native.Mathlib.Omega.{arith}
-use native.Mathlib.Nat.{sub-zero}
+use native.Mathlib.Nat.{sub-zero, not-suc-le-zero, le-of-suc-le-suc}
 use mathlib.Core.Path.{_≡_, refl, sym, ap, ap₂, subst, _∙_}
 use mathlib.Core.Bool.{Bool, true, false, cond, _&&_, false≢true}
 use mathlib.Core.List.{List, [], _∷_, _++_, append-assoc, append-nil}
 use mathlib.Core.Option.{Option, none, some}
 use borrow.Author.Tests.{eq-eqb, ne-eqb, eqb-true, eqb-false, lt-ltb, le-ltb, ltb-true, ltb-false}
-use lib.ListN.{length, getD, take, drop, length-append, drop-of-length-le}
-use lib.Seq.{drop-cons, drop-drop, drop-at, drop-append-seam}
+use lib.ListN.{length, getD, take, drop, length-take, length-append, drop-of-length-le}
+use lib.Seq.{take-all, drop-cons, drop-drop, drop-at, drop-append-seam}
 use lib.Dec.{eqb, ltb}
 use Rattle.protocol.specs.Numbers.{done, noPreamble, badPair, tooShort, tooLong, badChecksum, otherAddress, DLE, STX, ETX, maxData, maxContent, byteEnd}
 use Rattle.protocol.specs.Bytes.{Bytes, sum}
@@ -39,6 +39,29 @@ content-none (suc n) = refl
 content-zero : (l : List ℕ) → contentFrom 0 l ≡ []
 unfolding contentFrom
 content-zero l = refl
+
+-- The first of the content bytes.
+content-take : (n m : ℕ) (s : List ℕ) → n ≤ m → contentFrom n s ≡ take n (contentFrom m s)
+unfolding contentFrom
+content-take zero m s h = refl
+content-take (suc n) zero s h = absurd (not-suc-le-zero h)
+content-take (suc n) (suc m) [] h = refl
+content-take (suc n) (suc m) (b ∷ s) h =
+    ap (λ l. b ∷ l) (content-take n m (drop (length (doubled b)) (b ∷ s)) (le-of-suc-le-suc h))
+
+content-most : (n : ℕ) (s : List ℕ) → length (contentFrom n s) ≤ n
+content-most n s =
+    omega (arith, ap length (content-take n n s (omega arith)), length-take n (contentFrom n s))
+
+-- Content bytes copied into less room than they need, and into enough.
+pub copy-part : (n room : ℕ) (l : List ℕ) {old out : List ℕ} {r : ℕ} → room < n → Put 0 (contentFrom room l) old r out
+    → Put 0 (take room (contentFrom n l)) old r out
+copy-part n room l {old} {out} {r} h p = subst (λ m. Put 0 m old r out) (content-take room n l (omega (arith, h))) p
+
+pub copy-whole : (n room : ℕ) (l : List ℕ) {old out : List ℕ} {r : ℕ} → n ≤ room → Put 0 (contentFrom n l) old r out
+    → Put 0 (take room (contentFrom n l)) old r out
+copy-whole n room l {old} {out} {r} h p =
+    subst (λ m. Put 0 m old r out) (sym (take-all room (contentFrom n l) (omega (arith, h, content-most n l)))) p
 
 -- Doubled bytes give their content back.
 doubled-head : (b : ℕ) (x : List ℕ) → doubled b ++ x ≡ b ∷ drop 1 (doubled b ++ x)

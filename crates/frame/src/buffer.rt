@@ -7,7 +7,7 @@ ghost use Rattle.protocol.specs.Frame.{doubled};
 ghost use Rattle.protocol.specs.Buffer.{Put};
 
 // One byte at a place. Returns the next place.
-pub fn put(out: &mut [u8], at: usize, b: u8) -> usize
+pub(crate) fn put(out: &mut [u8], at: usize, b: u8) -> usize
     requires { ⌜ at < length (now out) ⌝ }
     ensures { λ r. ⌜ Put at (b ∷ []) (now (out .entry)) r (now (out .exit)) ⌝ }
 {

@@ -17,7 +17,7 @@ use protocol::TOO_LONG;
 use protocol::TOO_SHORT;
 ghost use mathlib.Core.Path.{_≡_};
 ghost use Prim.Native.Nat.{_+_, _≤_, _<_, _^_};
-ghost use lib.ListN.{length, drop};
+ghost use lib.ListN.{length, take, drop};
 ghost use mathlib.Core.Bool.{false};
 ghost use Rattle.protocol.specs.Frame.{doubled, undouble, readFrame, ifRoom};
 ghost use Rattle.protocol.specs.Numbers.{roomData};
@@ -196,7 +196,7 @@ pub fn check_frame(address: u8, s: &[u8]) -> Checked
 
 // Content bytes of a string, from a place on, copied to the front of an output: n of them, or as many as there are. Returns
 // how many.
-pub fn copy_content(s: &[u8], from: usize, n: usize, out: &mut [u8]) -> usize
+pub(crate) fn copy_content(s: &[u8], from: usize, n: usize, out: &mut [u8]) -> usize
     requires { ⌜ n ≤ length (now out) ⌝ }
     ensures { λ r. ⌜ Put 0 (contentFrom n (drop from (now (s .entry)))) (now (out .entry)) r (now (out .exit)) ⌝ }
 {
@@ -211,6 +211,17 @@ pub fn copy_content(s: &[u8], from: usize, n: usize, out: &mut [u8]) -> usize
         i += width(b);
     }
     k
+}
+
+// The same into an output of any length: as many as there is room for.
+pub fn copy_fitting(s: &[u8], from: usize, n: usize, out: &mut [u8]) -> usize
+    ensures { λ r. ⌜ Put 0 (take (length (now (out .entry))) (contentFrom n (drop from (now (s .entry))))) (now (out .entry)) r (now (out .exit)) ⌝ }
+{
+    let room = out.len();
+    if room < n {
+        return copy_content(s, from, room, out);
+    }
+    copy_content(s, from, n, out)
 }
 
 // A serial string read for an address into a lent output: 8, 2, 3, 4, 5, 6, 7 or 0.

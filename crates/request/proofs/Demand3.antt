@@ -20,14 +20,14 @@ use Rattle.request.proofs.Exact.{Wrote, read-serial-exact, read-udp-exa
 pub record Demand3 (address : ℕ) : Type 0 where
   -- a string is read as a request exactly when it is that request's written form
   pub serial-read : (s : List ℕ) → Bytes s → (x : declared.Asked) → AskedIs (readSerial address s) x → (q : Request)
-    → AskedIs (found q) x ↔ (Allowed q × (s ≡ serialForm address q))
+      → AskedIs (found q) x ↔ (Allowed q × (s ≡ serialForm address q))
   pub udp-read : (s : List ℕ) → Bytes s → (x : declared.Asked) → AskedIs (readUdp s) x → (q : Request)
-    → AskedIs (found q) x ↔ (Allowed q × (s ≡ udpForm q))
+      → AskedIs (found q) x ↔ (Allowed q × (s ≡ udpForm q))
   -- writing leaves exactly the written form, unless 8
   pub serial-written : (q : Request) (old new : List ℕ) (n size : ℕ) → roomSerial ≤ length old → Allowed q
-    → Emits (writeRequest roomSerial (length old) (serialForm address) q) old n size new → Wrote (serialForm address q) old n size new
+      → Emits (writeRequest roomSerial (length old) (serialForm address) q) old n size new → Wrote (serialForm address q) old n size new
   pub udp-written : (q : Request) (old new : List ℕ) (n size : ℕ) → roomUdp ≤ length old → Allowed q
-    → Emits (writeRequest roomUdp (length old) udpForm q) old n size new → Wrote (udpForm q) old n size new
+      → Emits (writeRequest roomUdp (length old) udpForm q) old n size new → Wrote (udpForm q) old n size new
   -- no string is the written form of two requests
   pub serial-once : (q r : Request) → Allowed q → Allowed r → serialForm address q ≡ serialForm address r → q ≡ r
   pub udp-once : (q r : Request) → Allowed q → Allowed r → udpForm q ≡ udpForm r → q ≡ r
@@ -43,5 +43,5 @@ demand-3 address =
       udp-written = λ q old new n size room h e. write-udp-exact q room h e;
       serial-once = λ q r h k e. serialForm-injective address address q r h k e .1;
       udp-once = λ q r h k e. udpForm-injective q r h k e;
-      streams = deliveries address
+      streams = deliveries address;
     }

@@ -194,27 +194,12 @@ front-tells (c ∷ op ∷ d) h = go (eqb c PDI && leb op opWriteExtended) refl
         ∙ long-shape op (take 23 d) (omega (arith, h, length-take 23 d))
         ∙ sym (readRequest-by c op d true e ∙ long-shape op d (omega (arith, h)))
 
-pub tells : (d : List ℕ) → readRequest (take (length d - (length d - 25)) d) ≡ readRequest d
+pub tells : (d : List ℕ) → readRequest (take 25 d) ≡ readRequest d
 tells d = go (decLe 25 (length d))
   where
-    go : Dec (25 ≤ length d) → readRequest (take (length d - (length d - 25)) d) ≡ readRequest d
-    go (yes h) =
-        let n : length d - (length d - 25) ≡ 25 = omega (arith, h) in
-        ap (λ m. readRequest (take m d)) n ∙ front-tells d h
-    go (no h) = ap readRequest (take-all (length d - (length d - 25)) d (omega (arith, h)))
-
--- The first of the content bytes.
-pub content-take : (n m : ℕ) (s : List ℕ) → n ≤ m → contentFrom n s ≡ take n (contentFrom m s)
-unfolding contentFrom
-content-take zero m s h = refl
-content-take (suc n) zero s h = absurd (not-suc-le-zero h)
-content-take (suc n) (suc m) [] h = refl
-content-take (suc n) (suc m) (b ∷ s) h =
-    ap (λ l. b ∷ l) (content-take n m (drop (length (doubled b)) (b ∷ s)) (le-of-suc-le-suc h))
-
-pub content-most : (n : ℕ) (s : List ℕ) → length (contentFrom n s) ≤ n
-content-most n s =
-    omega (arith, ap length (content-take n n s (omega arith)), length-take n (contentFrom n s))
+    go : Dec (25 ≤ length d) → readRequest (take 25 d) ≡ readRequest d
+    go (yes h) = front-tells d h
+    go (no h) = ap readRequest (take-all 25 d (omega (arith, h)))
 
 -- A string or a datagram that is refused, and one whose data is read.
 payload-refused : (p : Received) {n : ℕ} {x : declared.Asked} → n ≡ p .number → (n ≡ done → ⊥) → AskedIs (declined n) x
@@ -231,17 +216,14 @@ module _ (a : ℕ) (s : List ℕ) {r : Checked} {x : declared.Asked} (c : Checks
   unfolding readSerial
   serial-refused h f = payload-refused (readFrame a s) (c .number) h f
 
-  pub serial-read : r .number ≡ done → {n k : ℕ} {old front : List ℕ} → n ≡ r .len - (r .len - 25)
-      → Put 0 (contentFrom n (drop (r .start) s)) old k front → AskedIs (readRequest (take k front)) x
+  pub serial-read : r .number ≡ done → {k : ℕ} {old front : List ℕ}
+      → Put 0 (take 25 (contentFrom (r .len) (drop (r .start) s))) old k front → AskedIs (readRequest (take k front)) x
       → AskedIs (readSerial a s) x
   unfolding readSerial
-  serial-read h {n} {k} {old} {front} e p f =
+  serial-read h {k} {old} {front} p f =
       let d : List ℕ = readFrame a s .payload in
-      let size : n ≡ length d - (length d - 25) = e ∙ ap (λ m. m - (m - 25)) (c .len) in
-      let part : take k front ≡ take n d =
-      put-front p ∙ content-take n (r .len) (drop (r .start) s) (omega (arith, e)) ∙ ap (take n) (c .content) in
       let same : readRequest d ≡ readRequest (take k front) =
-      sym (ap readRequest part ∙ ap (λ m. readRequest (take m d)) size ∙ tells d) in
+      sym (ap readRequest (put-front p ∙ ap (take 25) (c .content)) ∙ tells d) in
       payload-read (readFrame a s) (c .number) h (carry same f)
 
 module _ (d : List ℕ) {n : ℕ} {x : declared.Asked} (e : n ≡ readDatagram d .number) where

@@ -136,16 +136,6 @@ pub fn read_data(d: &[u8]) -> Asked
     read_shape(op, &d[2..])
 }
 
-// How many bytes of data tell what it is: one more than the longest request has.
-fn telling(len: usize) -> usize
-    ensures { λ r. ⌜ r ≡ len - (len - 25) ⌝ }
-{
-    if 25 < len {
-        return 25;
-    }
-    len
-}
-
 // A serial string read as a request for an address: 2, 3, 4, 5, 6, 7, 10, 11 or 0.
 pub fn read_serial(address: u8, s: &[u8]) -> Asked
     ensures { λ r. ⌜ AskedIs (readSerial address (now (s .entry))) r ⌝ }
@@ -155,10 +145,9 @@ pub fn read_serial(address: u8, s: &[u8]) -> Asked
     if number != DONE {
         return refusal(number);
     }
-    let start = checked.start;
-    let size = telling(checked.len);
+    // One byte more than the longest request has.
     let mut front = [0u8; 25];
-    let n = frame::read::copy_content(s, start, size, &mut front);
+    let n = frame::read::copy_fitting(s, checked.start, checked.len, &mut front);
     read_data(&front[..n])
 }
 

@@ -7,14 +7,14 @@ use super::PDI;
 use super::UNKNOWN_COMMAND;
 use super::table;
 use frame::Written;
-use frame::buffer;
 use protocol::DONE;
 use protocol::NO_ROOM;
 use protocol::PropertyIndex;
 use protocol::ROOM_SERIAL;
 use protocol::ROOM_UDP;
 ghost use mathlib.Core.Path.{_≡_};
-ghost use Prim.Native.Nat.{_+_, _≤_};
+ghost use mathlib.Core.List.{[], _∷_};
+ghost use Prim.Native.Nat.{_+_, _<_, _≤_};
 ghost use lib.ListN.{length};
 ghost use Rattle.protocol.specs.Numbers.{roomSerial, roomUdp};
 ghost use Rattle.protocol.specs.Bytes.{word};
@@ -22,6 +22,15 @@ ghost use Rattle.protocol.specs.Buffer.{Put, Emits};
 ghost use Rattle.protocol.specs.Request.{allowance, dataOf, serialForm, udpForm};
 ghost use Rattle.request.specs.Asked.{requestOf};
 ghost use Rattle.request.specs.Write.{writeRequest};
+
+// One byte at a place. Returns the next place.
+fn put(out: &mut [u8], at: usize, b: u8) -> usize
+    requires { ⌜ at < length (now out) ⌝ }
+    ensures { λ r. ⌜ Put at (b ∷ []) (now (out .entry)) r (now (out .exit)) ⌝ }
+{
+    out[at] = b;
+    at + 1
+}
 
 // Bytes put at a place. Returns the next place.
 pub(crate) fn put_all(bs: &[u8], out: &mut [u8], at: usize) -> usize
@@ -31,7 +40,7 @@ pub(crate) fn put_all(bs: &[u8], out: &mut [u8], at: usize) -> usize
     let mut next = at;
     let mut i = 0;
     while i < bs.len() {
-        next = buffer::put(out, next, bs[i]);
+        next = put(out, next, bs[i]);
         i += 1;
     }
     next
@@ -42,10 +51,10 @@ fn put_word(out: &mut [u8], at: usize, n: u32) -> usize
     requires { ⌜ at + 4 ≤ length (now out) ⌝ }
     ensures { λ r. ⌜ Put at (word n) (now (out .entry)) r (now (out .exit)) ⌝ }
 {
-    let a = buffer::put(out, at, (n / 16777216 % 256) as u8);
-    let b = buffer::put(out, a, (n / 65536 % 256) as u8);
-    let c = buffer::put(out, b, (n / 256 % 256) as u8);
-    buffer::put(out, c, (n % 256) as u8)
+    let a = put(out, at, (n / 16777216 % 256) as u8);
+    let b = put(out, a, (n / 65536 % 256) as u8);
+    let c = put(out, b, (n / 256 % 256) as u8);
+    put(out, c, (n % 256) as u8)
 }
 
 // The data of a request, from the front of an output that has room for it.
@@ -53,17 +62,17 @@ fn put_data(op: u8, path: &[u8], index: PropertyIndex, value: u32, out: &mut [u8
     requires { ⌜ (length (now path) ≤ 16) × (24 ≤ length (now out)) ⌝ }
     ensures { λ r. ⌜ Put 0 (dataOf (requestOf op (now (path .entry)) (index .0) value)) (now (out .entry)) r (now (out .exit)) ⌝ }
 {
-    let commanded = buffer::put(out, 0, PDI);
-    let named = buffer::put(out, commanded, op);
+    let commanded = put(out, 0, PDI);
+    let named = put(out, commanded, op);
     let addressed = put_all(path, out, named);
     if op <= OP_NODE {
         return addressed;
     }
-    let indexed = buffer::put(out, addressed, index.0);
+    let indexed = put(out, addressed, index.0);
     if op <= OP_READ {
         return indexed;
     }
-    let parted = buffer::put(out, indexed, 0);
+    let parted = put(out, indexed, 0);
     put_word(out, parted, value)
 }
 
