@@ -3,19 +3,21 @@
 use Prim.Native.Nat.{ℕ, _+_, _<_, _≤_}
 use native.Mathlib.Omega.{arith}
 use native.Mathlib.Numerals.{add-one}
-use mathlib.Core.Path.{_≡_, sym, ap, subst, _∙_}
+use mathlib.Core.Path.{_≡_, refl, sym, ap, subst, _∙_}
+use mathlib.Core.Bool.{Bool, true, false, cond}
 use mathlib.Core.List.{List, [], _∷_, _++_, append-assoc, append-nil}
-use borrow.Author.Tests.{eq-eqb, ne-eqb, lt-ltb, le-ltb}
+use borrow.Author.Tests.{eqb-true, eqb-false, ltb-false, eq-eqb, ne-eqb, lt-ltb, le-ltb}
 use lib.ListN.{length, getD, take, drop, length-take}
 use lib.Seq.{take-suc, take-all, take-at, length-take-le}
+use lib.Dec.{eqb, ltb}
 use Rattle.protocol.specs.Numbers.{done, noRoom, roomSerial, roomUdp, PDI, opNode, opRead}
 use Rattle.protocol.specs.Bytes.{word}
 use Rattle.protocol.specs.Frame.{Received, received, refused, frame, datagram, ifSized, ifDone, ifRoom, writeFrame, writeDatagram}
 use Rattle.protocol.specs.Buffer.{putAt, Put, Emits}
 use Rattle.protocol.specs.Request.{Request, allowance, Allowed, dataOf, serialForm, udpForm}
-use Rattle.protocol.proofs.BufferLaws.{put-nil, puts, put-room, length-put, emits-refused, emits-no-room, emits-in-room}
+use Rattle.protocol.proofs.BufferLaws.{put-nil, puts, put-room, length-put, over-put, over-nil, emits-refused, emits-no-room, emits-in-room}
 use Rattle.protocol.proofs.FrameLaws.{ifSized-sized}
-use Rattle.protocol.proofs.RequestLaws.{dataOf-sized}
+use Rattle.protocol.proofs.RequestLaws.{dataOf-size, dataOf-sized}
 use Rattle.request.specs.Asked.{requestOf}
 use Rattle.request.specs.Write.{writeRequest}
 
@@ -72,23 +74,55 @@ pub put-as : {at r : ℕ} {ys zs old new : List ℕ} → ys ≡ zs → Put at ys
 put-as {at} {r} {old = old} {new = new} e p = subst (λ l. Put at l old r new) e p
 
 -- A request written out: with no room, what the table does not allow, and what it allows.
-module _ (least : ℕ) (form : Request → List ℕ) (r : Request) (old : List ℕ) where
-  pub emits-unroomed : length old < least → Emits (writeRequest least (length old) form r) old noRoom 0 old
+module _ (least room : ℕ) (form : Request → List ℕ) (r : Request) (old : List ℕ) where
+  pub emits-unroomed : room < least → Emits (writeRequest least room form r) old noRoom 0 old
   unfolding writeRequest
-  emits-unroomed h = emits-no-room least (length old) (ifDone (allowance r) (received (form r))) old h
+  emits-unroomed h = emits-no-room least room (ifDone (allowance r) (received (form r))) old h
 
-  pub emits-unallowed : least ≤ length old → {n : ℕ} → n ≡ allowance r → (n ≡ done → ⊥)
-      → Emits (writeRequest least (length old) form r) old n 0 old
+  pub emits-unallowed : least ≤ room → {n : ℕ} → n ≡ allowance r → (n ≡ done → ⊥) → Emits (writeRequest least room form r) old n 0 old
   unfolding writeRequest
-  emits-unallowed room {n} e h =
-      emits-in-room room
-      (rw (ne-eqb (allowance r) done (λ d. h (e ∙ d)))
+  emits-unallowed h {n} e u =
+      emits-in-room h
+      (rw (ne-eqb (allowance r) done (λ d. u (e ∙ d)))
       (subst (λ m. Emits (refused m) old n 0 old) e (emits-refused n old)))
 
-  pub emits-allowed : least ≤ length old → Allowed r → {n size : ℕ} {new : List ℕ} → Emits (received (form r)) old n size new
-      → Emits (writeRequest least (length old) form r) old n size new
+  pub emits-allowed : least ≤ room → Allowed r → {n size : ℕ} {new : List ℕ} → Emits (received (form r)) old n size new
+      → Emits (writeRequest least room form r) old n size new
   unfolding writeRequest
-  emits-allowed room h p = emits-in-room room (rw (eq-eqb (allowance r) done h) p)
+  emits-allowed h k p = emits-in-room h (rw (eq-eqb (allowance r) done k) p)
+
+-- What the data's number says of the request: a refusal is one in every form, and with 0 the data was put.
+pub record PutFor (least room : ℕ) (r : Request) (old : List ℕ) (size : ℕ) (new : List ℕ) : Type 0 where
+  pub roomy : least ≤ room
+  pub allowed : Allowed r
+  pub put : Put 0 (dataOf r) old size new
+
+module _ (least room : ℕ) (r : Request) {old new : List ℕ} {n size : ℕ} (e : Emits (writeRequest least room dataOf r) old n size new) where
+  pub refused-alike : (form : Request → List ℕ) (out : List ℕ) → (n ≡ done → ⊥) → Emits (writeRequest least room form r) out n size out
+  unfolding writeRequest ifRoom
+  refused-alike form out h = go (ltb room least) (eqb (allowance r) done) e
+    where
+      go : (t u : Bool) → Emits (cond t (refused noRoom) (cond u (received (dataOf r)) (refused (allowance r)))) old n size new
+          → Emits (cond t (refused noRoom) (cond u (received (form r)) (refused (allowance r)))) out n size out
+      go true u f = record { number = f .number; len = f .len; bytes = sym (over-nil out) }
+      go false true f = absurd (h (f .number))
+      go false false f = record { number = f .number; len = f .len; bytes = sym (over-nil out) }
+
+  pub put-for : n ≡ done → PutFor least room r old size new
+  unfolding writeRequest ifRoom
+  put-for h = go (ltb room least) (eqb (allowance r) done) refl refl e
+    where
+      go : (t u : Bool) → ltb room least ≡ t → eqb (allowance r) done ≡ u
+          → Emits (cond t (refused noRoom) (cond u (received (dataOf r)) (refused (allowance r)))) old n size new
+          → PutFor least room r old size new
+      go true u a b f = absurd (omega (arith, f .number, h))
+      go false true a b f =
+          record {
+            roomy = ltb-false room least a;
+            allowed = eqb-true (allowance r) done b;
+            put = record { next = omega (arith, f .len); bytes = f .bytes ∙ sym (over-put (dataOf r) old) };
+          }
+      go false false a b f = absurd (eqb-false (allowance r) done b (sym (f .number) ∙ h))
 
 -- The part of a buffer that holds what was put from its front on.
 pub put-front : {ys old new : List ℕ} {k : ℕ} → Put 0 ys old k new → take k new ≡ ys
@@ -98,6 +132,10 @@ put-front {ys} {old} {new} {k} p =
 
 pub put-within : {ys old new : List ℕ} {k : ℕ} → Put 0 ys old k new → length ys ≤ length old → k ≤ length new
 put-within p h = omega (arith, put-room p 0 (omega (arith, h)))
+
+pub put-for-within : {least room : ℕ} (r : Request) {old new : List ℕ} {size : ℕ} → PutFor least room r old size new → 24 ≤ length old
+    → size ≤ length new
+put-for-within r p h = put-within (p .put) (omega (arith, h, dataOf-size r (p .allowed)))
 
 pub part-size : (k : ℕ) (l : List ℕ) → k ≤ length l → k ≡ length (take k l)
 part-size k l h = sym (length-take-le k l h)

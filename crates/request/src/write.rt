@@ -89,6 +89,33 @@ fn allowance_of(op: u8, path: &[u8], index: PropertyIndex, value: u32) -> u8
     DONE
 }
 
+// The data of a request for an output of some room: 8 where any request may need more, 10, 11, or the data at the front.
+fn data_for(
+    least: usize,
+    room: usize,
+    op: u8,
+    path: &[u8],
+    index: PropertyIndex,
+    value: u32,
+    payload: &mut [u8],
+) -> Written
+    requires { ⌜ 24 ≤ length (now payload) ⌝ }
+    ensures { λ r. ⌜ Emits (writeRequest least room dataOf (requestOf op (now (path .entry)) (index .0) value)) (now (payload .entry)) (r .number) (r .len) (now (payload .exit)) ⌝ }
+{
+    if room < least {
+        return Written {
+            number: NO_ROOM,
+            len: 0,
+        };
+    }
+    let number = allowance_of(op, path, index, value);
+    if number != DONE {
+        return Written { number, len: 0 };
+    }
+    let len = put_data(op, path, index, value, payload);
+    Written { number: DONE, len }
+}
+
 // A request written out in a frame for an address: 8, 10, 11 or 0.
 pub fn write_serial(
     address: u8,
@@ -100,36 +127,22 @@ pub fn write_serial(
 ) -> Written
     ensures { λ r. ⌜ Emits (writeRequest roomSerial (length (now (out .entry))) (serialForm address) (requestOf op (now (path .entry)) (index .0) value)) (now (out .entry)) (r .number) (r .len) (now (out .exit)) ⌝ }
 {
-    if out.len() < ROOM_SERIAL {
-        return Written {
-            number: NO_ROOM,
-            len: 0,
-        };
-    }
-    let number = allowance_of(op, path, index, value);
-    if number != DONE {
-        return Written { number, len: 0 };
-    }
     let mut payload = [0u8; 24];
-    let n = put_data(op, path, index, value, &mut payload);
-    frame::write::write_frame(address, &payload[..n], out)
+    let put = data_for(ROOM_SERIAL, out.len(), op, path, index, value, &mut payload);
+    if put.number != DONE {
+        return put;
+    }
+    frame::write::write_frame(address, &payload[..put.len], out)
 }
 
 // A request written out in a datagram: 8, 10, 11 or 0.
 pub fn write_udp(op: u8, path: &[u8], index: PropertyIndex, value: u32, out: &mut [u8]) -> Written
     ensures { λ r. ⌜ Emits (writeRequest roomUdp (length (now (out .entry))) udpForm (requestOf op (now (path .entry)) (index .0) value)) (now (out .entry)) (r .number) (r .len) (now (out .exit)) ⌝ }
 {
-    if out.len() < ROOM_UDP {
-        return Written {
-            number: NO_ROOM,
-            len: 0,
-        };
-    }
-    let number = allowance_of(op, path, index, value);
-    if number != DONE {
-        return Written { number, len: 0 };
-    }
     let mut payload = [0u8; 24];
-    let n = put_data(op, path, index, value, &mut payload);
-    frame::udp::write_datagram(&payload[..n], out)
+    let put = data_for(ROOM_UDP, out.len(), op, path, index, value, &mut payload);
+    if put.number != DONE {
+        return put;
+    }
+    frame::udp::write_datagram(&payload[..put.len], out)
 }
