@@ -1,15 +1,15 @@
 -- The middle of a frame, written byte after byte.
 -- Assumes nothing.
-use Prim.Native.Nat.{ℕ, suc, _+_, _*_, _%_, _^_, _<_, _≤_}
+use Prim.Native.Nat.{ℕ, _+_, _*_, _%_, _^_, _<_, _≤_}
 use native.Mathlib.Omega.{arith}
 use native.Mathlib.Numerals.{add-one}
-use mathlib.Core.Path.{_≡_, refl, sym, ap, ap₂, subst, _∙_}
+use mathlib.Core.Path.{_≡_, sym, ap, subst, _∙_}
 use mathlib.Core.List.{List, [], _∷_, _++_}
 use lib.ListN.{length, take, getD, length-take}
 use lib.Seq.{take-suc, take-all}
 use Rattle.protocol.specs.Bytes.{sum}
 use Rattle.protocol.specs.Frame.{doubled, double}
-use Rattle.protocol.specs.Buffer.{putAt, Put}
+use Rattle.protocol.specs.Buffer.{Put}
 use Rattle.protocol.proofs.ListLaws.{sum-snoc}
 use Rattle.protocol.proofs.FrameLaws.{double-snoc, length-double}
 use Rattle.protocol.proofs.BufferLaws.{put-nil, puts, length-put}

@@ -1,16 +1,16 @@
 -- One call of `feed`: what it gives, by what its parts give.
 -- Assumes nothing.
-use Prim.Native.Nat.{ℕ, suc, _+_, _-_, _<_, _≤_}
+use Prim.Native.Nat.{ℕ, _+_, _-_, _<_, _≤_}
 use native.Mathlib.Omega.{arith}
 use mathlib.Core.Path.{_≡_, refl, sym, ap, ap₂, subst, _∙_}
 use mathlib.Core.Bool.{Bool, true, false, cond, false≢true}
-use mathlib.Core.List.{List, [], _∷_, _++_}
+use mathlib.Core.List.{List, _∷_, _++_}
 use borrow.Author.Tests.{lt-ltb, le-ltb}
 use lib.ListN.{length, take, drop, length-drop}
 use Rattle.protocol.specs.Numbers.{unsound, noRoom, noFrame, badPair, tooLong, maxContent, roomData}
 use Rattle.protocol.specs.Bytes.{half}
-use Rattle.protocol.specs.Frame.{Received, refused, judge}
-use Rattle.protocol.specs.Buffer.{over, Emits}
+use Rattle.protocol.specs.Frame.{refused, judge}
+use Rattle.protocol.specs.Buffer.{Emits}
 use Rattle.protocol.specs.Stream as rule
 use Rattle.protocol.specs.Stream.{Event}
 use Rattle.protocol.proofs.BufferLaws.{over-nil, emits-refused}
@@ -19,7 +19,7 @@ use Rattle.frame.specs.declared.stream.Found.{Found}
 use Rattle.frame.specs.declared.stream.Found.the-variants.{At, Formless}
 use Rattle.frame.specs.declared.stream.End.{End}
 use Rattle.frame.specs.declared.stream.End.the-variants.{NoFrame, ClosedWith, Paired, Long}
-use Rattle.frame.specs.Stream.{stateLength, phaseOf, contentIn, keep, phaseIn, lengthIn, hasForm, standing, placeOf, place, Ran, runFrom, FedBy, outcome, fedBy, takesNone, fed, Feeds, endOf, RunIs}
+use Rattle.frame.specs.Stream.{stateLength, phaseIn, lengthIn, hasForm, standing, placeOf, place, Ran, runFrom, outcome, takesNone, fed, Feeds, endOf, RunIs}
 use Rattle.frame.proofs.FeedLaws.{Placed, keep-placed, placed-formed}
 
 -- The two refusals that take no byte.

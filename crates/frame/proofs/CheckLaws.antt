@@ -4,23 +4,22 @@ use Prim.Native.Nat.{ℕ, zero, suc, _+_, _-_, _%_, _^_, _<_, _≤_}
 use native.Mathlib.Omega.{arith}
 use native.Mathlib.Nat.{sub-zero, not-suc-le-zero, le-of-suc-le-suc}
 use mathlib.Core.Path.{_≡_, refl, sym, ap, ap₂, subst, _∙_}
-use mathlib.Core.Bool.{Bool, true, false, cond, _&&_, false≢true}
+use mathlib.Core.Bool.{Bool, true, false, cond, _&&_}
 use mathlib.Core.List.{List, [], _∷_, _++_, append-assoc, append-nil}
 use mathlib.Core.Option.{Option, none, some}
-use borrow.Author.Tests.{eq-eqb, ne-eqb, eqb-true, eqb-false, lt-ltb, le-ltb, ltb-true, ltb-false}
+use borrow.Author.Tests.{eq-eqb, ne-eqb, eqb-true, lt-ltb, le-ltb, ltb-true, ltb-false}
 use lib.ListN.{length, getD, take, drop, length-take, length-append, drop-of-length-le}
-use lib.Seq.{take-all, drop-cons, drop-drop, drop-at, drop-append-seam}
+use lib.Seq.{take-all, drop-cons, drop-drop, drop-append-seam}
 use lib.Dec.{eqb, ltb}
 use Rattle.protocol.specs.Numbers.{done, noPreamble, badPair, tooShort, tooLong, badChecksum, otherAddress, DLE, STX, ETX, maxData, maxContent, byteEnd}
 use Rattle.protocol.specs.Bytes.{Bytes, sum}
-use Rattle.protocol.specs.Frame.{Received, refused, received, doubled, double, checksum, contentOf, wrap, frame, undouble, judge, judgeWhole, readFrame, addressIn, dataIn, checksumIn}
+use Rattle.protocol.specs.Frame.{refused, received, doubled, double, checksum, contentOf, wrap, frame, undouble, judge, judgeWhole, readFrame, addressIn, dataIn, checksumIn}
 use Rattle.protocol.specs.Buffer.{over, Put, Emits}
 use Rattle.protocol.proofs.TestLaws.{eqb-same}
 use Rattle.protocol.proofs.ListLaws.{init-last, sum-snoc, bytes-left, bytes-drop}
-use Rattle.protocol.proofs.FrameLaws.{double-snoc, bytes-undouble, double-undouble, parts, isShort, isSummed, judge-by, judgeWhole-by, isOpened, opened, readFrame-by, readFrame-only, readFrame-refused, Written}
+use Rattle.protocol.proofs.FrameLaws.{double-snoc, bytes-undouble, double-undouble, parts, isSummed, judge-by, judgeWhole-by, isOpened, opened, readFrame-by, readFrame-only, readFrame-refused}
 use Rattle.protocol.proofs.BufferLaws.{put-nil, puts, length-put, over-put, over-nil}
 use Rattle.frame.specs.declared.read.Tally.{Tally}
-use Rattle.frame.specs.declared.read.Scan.{Scan}
 use Rattle.frame.specs.declared.read.Scan.the-variants.{Whole, Broken}
 use Rattle.frame.specs.declared.read.Checked.{Checked}
 use Rattle.frame.specs.Read.{Tallies, ScanOf, failed, passed, judged, contentFrom, Checks}

@@ -1,23 +1,21 @@
 -- A closed frame: its content tallied and judged, its data put out, and the place put into the state.
 -- Assumes nothing.
-use Prim.Native.Nat.{ℕ, suc, _+_, _-_, _/_, _%_, _^_, _<_, _≤_}
+use Prim.Native.Nat.{ℕ, _+_, _-_, _/_, _%_, _<_, _≤_}
 use native.Mathlib.Omega.{arith}
 use native.Mathlib.Numerals.{add-one}
-use mathlib.Core.Path.{_≡_, refl, sym, ap, ap₂, subst, _∙_}
-use mathlib.Core.Bool.{true}
+use mathlib.Core.Path.{_≡_, refl, sym, ap, subst, _∙_}
 use mathlib.Core.List.{List, [], _∷_, _++_}
 use borrow.Author.Tests.{ltb-true}
 use lib.ListN.{length, getD, take, drop, set}
 use lib.Seq.{take-suc, take-all}
-use lib.Dec.{ltb}
-use Rattle.protocol.specs.Numbers.{done, maxData, maxContent}
+use Rattle.protocol.specs.Numbers.{done, maxContent}
 use Rattle.protocol.specs.Bytes.{Bytes, half, sum}
 use Rattle.protocol.specs.Frame.{judge, dataIn, received, refused}
-use Rattle.protocol.specs.Buffer.{over, Put, Emits}
+use Rattle.protocol.specs.Buffer.{Put, Emits}
 use Rattle.protocol.proofs.BufferLaws.{put-emits, emits-refused}
 use Rattle.frame.specs.declared.read.Tally.{Tally}
 use Rattle.frame.specs.declared.read.Checked.{Checked}
-use Rattle.frame.specs.Read.{Tallies, OneMore, failed, passed, judged}
+use Rattle.frame.specs.Read.{Tallies, OneMore, judged}
 use Rattle.frame.proofs.ReadLaws.{tallies-more}
 use Rattle.frame.proofs.CheckLaws.{Alike, both-refused, both-passed, alike}
 

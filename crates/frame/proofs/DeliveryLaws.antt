@@ -1,28 +1,28 @@
 -- Demand 3 on streams: every list of deliveries, refused ones included.
 -- Assumes nothing.
-use Prim.Native.Nat.{ℕ, zero, suc, _+_, _-_, _*_, _/_, _%_, _^_, _<_, _≤_}
+use Prim.Native.Nat.{ℕ, suc, _+_, _≤_}
 use native.Mathlib.Omega.{arith}
 use native.Mathlib.Nat.{le-refl, add-suc, suc-add}
 use native.Mathlib.Numerals.{add-one}
 use mathlib.Core.Path.{_≡_, refl, sym, ap, ap₂, subst, _∙_}
-use mathlib.Core.Bool.{Bool, true, false, cond, _&&_, _||_, false≢true}
+use mathlib.Core.Bool.{Bool, true, false, cond, _||_, false≢true}
 use mathlib.Core.List.{List, [], _∷_, _++_, append-assoc, append-nil}
-use borrow.Author.Tests.{eq-eqb, ne-eqb, eqb-true, eqb-false, le-leb, ltb-true, ltb-false, leb-true}
-use lib.ListN.{length, getD, take, drop, replicate, length-append, length-take, length-drop, length-replicate}
+use borrow.Author.Tests.{eq-eqb, eqb-true, le-leb, ltb-true}
+use lib.ListN.{length, take, drop, length-append, length-drop}
 use lib.Seq.{take-at, length-take-le}
 use lib.Dec.{eqb, ltb, leb}
-use Rattle.protocol.specs.Numbers.{done, unsound, noRoom, noFrame, badPair, tooLong, DLE, STX, ETX, maxContent, roomData}
+use Rattle.protocol.specs.Numbers.{done, unsound, noRoom, DLE, STX, ETX, maxContent, roomData}
 use Rattle.protocol.specs.Bytes.{half}
 use Rattle.protocol.specs.Frame.{Received, received, refused, judge, wrap, frame, contentOf, addressIn, Sized}
 use Rattle.protocol.specs.Buffer.{over}
 use Rattle.protocol.specs.Stream as rule
-use Rattle.protocol.specs.Stream.{Stream, outside, inside, Event, step, collect, on, ends, HandedUp, handUp, handedUpFrom, handedUp}
+use Rattle.protocol.specs.Stream.{Stream, outside, inside, Event, step, collect, on, ends, handUp, handedUpFrom, handedUp}
 use Rattle.protocol.proofs.TestLaws.{and-both, if-both}
 use Rattle.protocol.proofs.FrameLaws.{judge-only, Good, isSummed, length-contentOf}
 use Rattle.protocol.proofs.StreamLaws.{closing, after-append, handedUp-append, closed-stands, second-sending}
-use Rattle.frame.specs.Stream.{stateLength, phaseOf, contentIn, keep, phaseIn, lengthIn, hasForm, streamWith, standing, Ran, one-more, ended, next, runFrom, FedBy, outcome, fedBy, takesNone, fed, Feeds}
+use Rattle.frame.specs.Stream.{stateLength, phaseOf, contentIn, keep, phaseIn, lengthIn, hasForm, streamWith, standing, Ran, one-more, ended, next, runFrom, outcome, fedBy, takesNone, fed}
 use Rattle.frame.specs.Delivery.{Delivery, Meets, Deliveries, fresh, took, joined, silent, entry, handedBy, Stands, AllStand, NoneUnsound, stateAfter, settled, Delivered}
-use Rattle.frame.proofs.FeedLaws.{head, keep-is, run-cons, not-closed}
+use Rattle.frame.proofs.FeedLaws.{head, keep-is, not-closed}
 
 -- A state whose bytes are the form of a place in the stream rule.
 pub record Stood (s : Stream) (st : List ℕ) : Type 0 where

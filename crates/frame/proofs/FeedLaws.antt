@@ -1,13 +1,13 @@
 -- Bytes fed from a place: the reader's place and the state's bytes go with the stream rule.
 -- Assumes nothing.
-use Prim.Native.Nat.{ℕ, zero, suc, _+_, _-_, _*_, _/_, _%_, _^_, _<_, _≤_}
+use Prim.Native.Nat.{ℕ, zero, suc, _+_, _*_, _/_, _%_, _^_, _<_, _≤_}
 use native.Mathlib.Omega.{arith}
 use native.Mathlib.Nat.{add-zero, zero-add, add-comm}
 use native.Mathlib.Numerals.{add-one}
 use mathlib.Core.Path.{_≡_, refl, sym, ap, ap₂, subst, _∙_}
-use mathlib.Core.Bool.{Bool, true, false, cond, _&&_, _||_, false≢true}
-use mathlib.Core.List.{List, [], _∷_, _++_, append-nil}
-use borrow.Author.Tests.{eq-eqb, ne-eqb, eqb-true, eqb-false, lt-ltb, le-ltb, ltb-true, ltb-false, leb-true, leb-false}
+use mathlib.Core.Bool.{Bool, true, false, cond, _||_, false≢true}
+use mathlib.Core.List.{List, [], _∷_, _++_}
+use borrow.Author.Tests.{ne-eqb, eqb-true, ltb-true, leb-true}
 use lib.ListN.{length, getD, take, drop, set, length-append, length-take, length-drop, length-set, take-append-drop, drop-of-length-le}
 use lib.Seq.{drop-cons, drop-drop, take-all, take-take, length-take-le, drop-set-lt, drop-set-add, take-suc-set}
 use lib.Dec.{eqb, ltb, leb}
@@ -16,11 +16,10 @@ use Rattle.protocol.specs.Bytes.{Bytes, half}
 use Rattle.protocol.specs.Buffer.{over}
 use Rattle.protocol.specs.Stream as rule
 use Rattle.protocol.specs.Stream.{Stream, outside, inside, Event, step, collect, on, ends}
-use Rattle.protocol.proofs.TestLaws.{and-left, and-right, if-case}
+use Rattle.protocol.proofs.TestLaws.{and-left, and-right}
 use Rattle.frame.specs.declared.stream.Place.{Place}
 use Rattle.frame.specs.declared.stream.Found.{Found}
 use Rattle.frame.specs.declared.stream.Found.the-variants.{At, Formless}
-use Rattle.frame.specs.declared.stream.End.{End}
 use Rattle.frame.specs.declared.stream.End.the-variants.{NoFrame, ClosedWith, Paired, Long}
 use Rattle.frame.specs.declared.stream.Move.{Move}
 use Rattle.frame.specs.declared.stream.Move.the-variants.{On, Keep, Closed, BadPair, TooLong}

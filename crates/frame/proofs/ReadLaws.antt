@@ -1,13 +1,13 @@
 -- A serial string, read piece by piece.
 -- Assumes nothing.
-use Prim.Native.Nat.{ℕ, zero, suc, _+_, _-_, _%_, _^_, _<_, _≤_}
+use Prim.Native.Nat.{ℕ, suc, _+_, _-_, _<_, _≤_}
 use native.Mathlib.Omega.{arith}
 use native.Mathlib.Numerals.{add-one}
-use mathlib.Core.Path.{_≡_, refl, sym, ap, ap₂, subst, _∙_}
+use mathlib.Core.Path.{_≡_, refl, sym, ap, subst, _∙_}
 use mathlib.Core.Bool.{Bool, true, false, cond}
 use mathlib.Core.List.{List, [], _∷_, _++_, append-assoc, append-nil}
 use mathlib.Core.Option.{Option, none, some}
-use borrow.Author.Tests.{eq-eqb, ne-eqb, eqb-true}
+use borrow.Author.Tests.{eq-eqb, ne-eqb}
 use lib.ListN.{length, getD, drop, length-append, length-drop, drop-of-length-le}
 use lib.Seq.{drop-cons, drop-drop}
 use lib.Dec.{eqb}
@@ -17,7 +17,6 @@ use Rattle.protocol.specs.Frame.{undouble, push, atEnd}
 use Rattle.protocol.proofs.ListLaws.{sum-snoc}
 use Rattle.protocol.proofs.FrameLaws.{undouble-lone, undouble-dle, undouble-pair, undouble-end, undouble-bad}
 use Rattle.frame.specs.declared.read.Tally.{Tally}
-use Rattle.frame.specs.declared.read.Scan.{Scan}
 use Rattle.frame.specs.declared.read.Scan.the-variants.{Whole, Broken}
 use Rattle.frame.specs.declared.read.Piece.{Piece}
 use Rattle.frame.specs.declared.read.Piece.the-variants.{Lone, Doubled, End, Bad}

@@ -6,7 +6,7 @@ use mathlib.Core.List.{List, [], _∷_, _++_}
 use mathlib.Core.Option.{Option, none, some}
 use lib.ListN.{length, getD, take, drop}
 use lib.Dec.{eqb, ltb, leb}
-use Rattle.protocol.specs.Numbers.{done, unsound, noRoom, noFrame, badPair, tooLong, DLE, STX, ETX, maxContent, roomData}
+use Rattle.protocol.specs.Numbers.{unsound, noRoom, noFrame, badPair, tooLong, DLE, STX, ETX, maxContent, roomData}
 use Rattle.protocol.specs.Bytes.{half}
 use Rattle.protocol.specs.Frame.{Received, refused, judge}
 use Rattle.protocol.specs.Buffer.{over}

@@ -12,7 +12,7 @@ use protocol::STX;
 ghost use Prim.Native.Nat.{_+_, _*_, _≤_, _<_, _^_};
 ghost use lib.ListN.{length};
 ghost use Rattle.protocol.specs.Numbers.{roomSerial};
-ghost use Rattle.protocol.specs.Frame.{frame, writeFrame, ifRoom, Sized};
+ghost use Rattle.protocol.specs.Frame.{frame, writeFrame, ifRoom};
 ghost use Rattle.protocol.specs.Buffer.{Put, Emits};
 ghost use Rattle.frame.specs.Body.{PutBody};
 

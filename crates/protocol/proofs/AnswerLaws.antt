@@ -1,19 +1,16 @@
 -- Answers: how long a reply is, what an open probe is answered, and which cells a request changes.
 -- Assumes nothing.
-use Prim.Native.Nat.{ℕ, zero, suc, _+_, _-_, _<_, _≤_}
+use Prim.Native.Nat.{ℕ, zero, suc, _+_, _<_, _≤_}
 use native.Mathlib.Omega.{arith}
-use native.Mathlib.Nat.{not-suc-le-zero}
-use mathlib.Core.Logic.{_⊎_, inl, inr}
-use mathlib.Core.Path.{_≡_, refl, sym, ap, ap₂, subst, _∙_}
+use mathlib.Core.Path.{_≡_, refl, sym, ap, subst, _∙_}
 use mathlib.Core.Bool.{Bool, true, false, cond, _&&_}
 use mathlib.Core.List.{List, [], _∷_, _++_}
 use mathlib.Core.Option.{Option, none, some, Option·none-ne-some, Option·some-injective}
-use borrow.Author.Tests.{eqb-true, eqb-false, ltb-true, ltb-false, leb-true, eq-eqb, ne-eqb}
-use lib.ListN.{length, drop, getD, getElem?, set, length-append, length-set}
+use borrow.Author.Tests.{eqb-true, eqb-false, ltb-true, leb-true, ne-eqb}
+use lib.ListN.{length, drop, getElem?, set, length-append}
 use lib.Seq.{getD-set-same, getD-set-other}
 use lib.Dec.{eqb, ltb, leb}
-use Rattle.protocol.specs.declared.PropertyIndex.{PropertyIndex}
-use Rattle.protocol.specs.Numbers.{done, unknownCommand, disabled, badParameter, noReading, PDI, NAK, opDetect, opNode, opRecord, opRead, opWrite, opWriteExtended, maxData, maxDepth, maxName, maxTexts, maxNodes, maxProperties}
+use Rattle.protocol.specs.Numbers.{done, unknownCommand, disabled, badParameter, noReading, PDI, NAK, opDetect, opNode, opRecord, opRead, opWrite, opWriteExtended, maxDepth, maxName, maxTexts, maxNodes, maxProperties}
 use Rattle.protocol.specs.Bytes.{every, half, word, text, texts}
 use Rattle.protocol.specs.Frame.{Sized}
 use Rattle.protocol.specs.Request.{Request, Asked, asksIndex, asksValue, fits, askedIf, declined, beforeZero, readIndexed, readValued, readShape, readRequest}

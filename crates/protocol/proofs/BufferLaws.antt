@@ -1,6 +1,6 @@
 -- Lent buffers: bytes put one behind the other, from a place on or at the front.
 -- Assumes nothing.
-use Prim.Native.Nat.{ℕ, zero, suc, _+_, _-_, _<_, _≤_}
+use Prim.Native.Nat.{ℕ, _+_, _-_, _<_, _≤_}
 use native.Mathlib.Omega.{arith}
 use native.Mathlib.Nat.{zero-add, add-zero, add-assoc}
 use native.Mathlib.Numerals.{add-one}
@@ -9,7 +9,7 @@ use mathlib.Core.List.{List, [], _∷_, _++_, append-assoc, append-nil}
 use borrow.Rule.Slice.PartMut.{putMid}
 use borrow.Author.Tests.{lt-ltb, le-ltb, eq-eqb, ne-eqb}
 use lib.ListN.{length, take, drop, set, take-append-drop, drop-of-length-le, length-append, length-take, length-drop}
-use lib.Seq.{take-all, set-split, length-take-le, take-at, drop-at, drop-drop, drop-append-add}
+use lib.Seq.{take-all, set-split, take-at, drop-drop, drop-append-add}
 use Rattle.protocol.specs.Buffer.{putAt, over, Put, Emits}
 use Rattle.protocol.specs.Numbers.{done, noRoom}
 use Rattle.protocol.specs.Frame.{Received, received, refused, sizeNumber, ifSized, ifRoom}

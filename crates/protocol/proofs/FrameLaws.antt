@@ -1,15 +1,15 @@
 -- Frames and datagrams: reading what was written gives it back, and only what was written is read.
 -- Assumes nothing.
-use Prim.Native.Nat.{ℕ, suc, _+_, _-_, _*_, _<_, _≤_}
+use Prim.Native.Nat.{ℕ, suc, _+_, _-_, _*_, _≤_}
 use native.Mathlib.Omega.{arith}
 use mathlib.Core.Path.{_≡_, refl, sym, ap, ap₂, subst, _∙_}
 use mathlib.Core.Bool.{Bool, true, false, cond, _&&_, false≢true}
 use mathlib.Core.List.{List, [], _∷_, _++_, append-assoc, append-nil}
 use mathlib.Core.Option.{Option, none, some, Option·none-ne-some, Option·some-injective}
 use borrow.Author.Tests.{eqb-true, eqb-false, ltb-true, ltb-false, eq-eqb, ne-eqb, le-ltb, le-leb}
-use native.Mathlib.Nat.{not-suc-le-zero, le-of-suc-le-suc, le-refl}
+use native.Mathlib.Nat.{not-suc-le-zero, le-of-suc-le-suc}
 use lib.ListN.{length, getD, take, drop, length-append}
-use lib.Seq.{take-at, getD-at, take-suc, take-length}
+use lib.Seq.{take-at, getD-at}
 use lib.Dec.{eqb, ltb, leb}
 use Rattle.protocol.specs.Numbers.{done, noPreamble, badPair, tooShort, tooLong, badChecksum, otherAddress, maxData, maxContent, DLE, STX, ETX}
 use Rattle.protocol.specs.Bytes.{Bytes, every}

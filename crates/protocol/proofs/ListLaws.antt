@@ -2,16 +2,14 @@
 -- Assumes nothing.
 use Prim.Native.Nat.{ℕ, zero, suc, _+_, _-_, _*_, _/_, _%_, _^_, _<_, _≤_}
 use native.Mathlib.Omega.{arith}
-use native.Mathlib.Nat.{not-suc-le-zero, le-of-suc-le-suc, le-refl, div-div-eq-div-mul}
+use native.Mathlib.Nat.{not-suc-le-zero, le-refl, div-div-eq-div-mul}
 use native.Mathlib.Decide.{decLt}
-use mathlib.Core.Path.{_≡_, refl, sym, ap, ap₂, subst, _∙_}
-use mathlib.Core.Bool.{Bool, true, false, cond, _&&_, and-eq-true-iff}
+use mathlib.Core.Path.{_≡_, sym, ap, _∙_}
 use mathlib.Core.List.{List, [], _∷_, _++_}
 use lib.ListN.{length, getD, take, drop, List·getD-append, List·getD-eq-default}
-use lib.Seq.{take-suc, take-length, getD-append-add, getD-drop, getD-take}
-use lib.Dec.{ltb}
+use lib.Seq.{take-suc, take-length, getD-drop}
 use Rattle.protocol.specs.Numbers.{byteEnd, wordEnd}
-use Rattle.protocol.specs.Bytes.{Bytes, every, word, half, number, numberAfter, sum}
+use Rattle.protocol.specs.Bytes.{Bytes, word, number, numberAfter, sum}
 
 -- A list that is not empty is all but its last entry, and that entry.
 pub init-last : (bs : List ℕ) → 1 ≤ length bs → bs ≡ take (length bs - 1) bs ++ getD bs (length bs - 1) 0 ∷ []

@@ -8,14 +8,14 @@ use mathlib.Core.Logic.{_↔_}
 use mathlib.Core.Path.{_≡_, refl, sym, ap, ap₂, subst, _∙_}
 use mathlib.Core.Bool.{Bool, true, false, cond, _&&_}
 use mathlib.Core.List.{List, [], _∷_, _++_, append-assoc, append-nil}
-use borrow.Author.Tests.{eqb-true, eqb-false, ltb-true, ltb-false, leb-true, leb-false, eq-eqb, ne-eqb, lt-ltb, le-ltb, le-leb}
+use borrow.Author.Tests.{eqb-true, eqb-false, ltb-true, ltb-false, leb-true, eq-eqb, ne-eqb, lt-ltb, le-ltb, le-leb}
 use lib.ListN.{length, getD, take, drop, length-append, length-take, length-drop}
 use lib.Seq.{take-at, drop-append-add, getD-at}
 use lib.Dec.{eqb, ltb, leb}
-use Rattle.protocol.specs.Numbers.{done, unknownCommand, badParameter, DLE, ETX, PDI, opDetect, opNode, opRead, opWriteExtended, maxDepth, maxData, byteEnd, wordEnd}
+use Rattle.protocol.specs.Numbers.{done, unknownCommand, badParameter, DLE, ETX, PDI, opDetect, opNode, opRead, opWriteExtended, maxDepth, byteEnd, wordEnd}
 use Rattle.protocol.specs.Bytes.{Bytes, every, word, number}
 use Rattle.protocol.specs.Frame.{Received, double, checksum, contentOf, wrap, frame, datagram, readFrame, readDatagram, received, Sized}
-use Rattle.protocol.specs.Request.{Request, nonzero, isPath, asksPath, asksIndex, asksValue, pathFits, indexFits, valueFits, fits, allowance, Allowed, indexPart, valuePart, dataOf, serialForm, udpForm, Asked, noRequest, declined, askedIf, beforeZero, readIndexed, readValued, readShape, readRequest, readPayload, readSerial, readUdp}
+use Rattle.protocol.specs.Request.{Request, nonzero, isPath, asksPath, asksIndex, asksValue, pathFits, indexFits, valueFits, fits, allowance, Allowed, indexPart, valuePart, dataOf, serialForm, udpForm, Asked, declined, askedIf, beforeZero, readIndexed, readValued, readShape, readRequest, readPayload, readSerial, readUdp}
 use Rattle.protocol.proofs.TestLaws.{and-left, and-right, every-append, every-one}
 use Rattle.protocol.proofs.ListLaws.{init-last, number-word, word-of-four, bytes-drop, bytes-left}
 use Rattle.protocol.proofs.FrameLaws.{bytes-undouble, readFrame-frame, readFrame-only, frame-injective, readDatagram-datagram, readDatagram-only, datagram-injective, Written}

@@ -1,6 +1,6 @@
 -- The stream rule: what a whole frame does to a reader, where a closed frame stands, and the second sending.
 -- Assumes nothing.
-use Prim.Native.Nat.{ℕ, suc, _+_, _-_, _<_, _≤_}
+use Prim.Native.Nat.{ℕ, suc, _+_, _<_, _≤_}
 use native.Mathlib.Omega.{arith}
 use native.Mathlib.Nat.{add-suc, suc-add, add-zero}
 use mathlib.Core.Path.{_≡_, refl, sym, ap, ap₂, subst, _∙_}
@@ -10,8 +10,8 @@ use borrow.Author.Tests.{eqb-true, lt-ltb}
 use lib.ListN.{length, length-append}
 use lib.Dec.{eqb, ltb}
 use Rattle.protocol.specs.Numbers.{DLE, STX, ETX, maxContent}
-use Rattle.protocol.specs.Frame.{Received, double, wrap, frame, contentOf, judge, received, Sized}
-use Rattle.protocol.specs.Stream.{Stream, outside, inside, begin, Event, nothing, closed, droppedPair, droppedLong, Step, on, ends, collect, step, after, HandedUp, handUp, handedUpFrom, handedUp}
+use Rattle.protocol.specs.Frame.{double, wrap, frame, contentOf, judge, received, Sized}
+use Rattle.protocol.specs.Stream.{Stream, outside, inside, begin, Event, nothing, closed, droppedPair, droppedLong, on, ends, collect, step, after, HandedUp, handUp, handedUpFrom, handedUp}
 use Rattle.protocol.proofs.FrameLaws.{double-nil, double-dle, double-lone, double-snoc, length-contentOf, judge-contentOf}
 
 -- Bytes joined: the state, and what is handed up.

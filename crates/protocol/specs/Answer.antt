@@ -8,7 +8,7 @@ use lib.Dec.{eqb, leb}
 use Rattle.protocol.specs.Numbers.{done, disabled, unknownCommand, badParameter, noReading, notSaved, PDI, ERROR, ACK, DISABLED, NAK, ILLEGAL, opDetect, opNode, opRecord, opRead, opWrite, standard, statusOk, saveFailed, saveDone, saveNone}
 use Rattle.protocol.specs.Bytes.{half, word, text, texts, atMost}
 use Rattle.protocol.specs.Request.{Request, Asked, readRequest}
-use Rattle.protocol.specs.Tree.{Node, Property, Tree, Cell, canRead, canWrite, isSigned, childrenOf, propertiesOf, propertyOf, nodeAt, nodeIn, propertyIn, cellIn, readable}
+use Rattle.protocol.specs.Tree.{Property, Tree, Cell, canRead, canWrite, isSigned, childrenOf, propertiesOf, propertyOf, nodeAt, nodeIn, propertyIn, cellIn, readable}
 
 -- The range rule. Type 1: any value where min and max are both 0, else from min to max, both included, in the order that
 -- format bit 15 gives. Type 2: from 0 to max, unsigned, a max of 0 included.

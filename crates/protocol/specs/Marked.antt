@@ -1,10 +1,9 @@
 -- 01, Bench tree and its cases: the cases that are marked to be proved, one row each. (The read case has status 01, as 003,
 -- 5.4, decides.)
 use Prim.Native.Nat.{ℕ}
-use mathlib.Core.Bool.{Bool, true, false}
+use mathlib.Core.Bool.{true}
 use mathlib.Core.List.{List, [], _∷_, _++_, map}
 use Rattle.protocol.specs.Frame.{frame}
-use Rattle.protocol.specs.Tree.{Tree, Cell}
 use Rattle.protocol.specs.Answer.{Answer, answer}
 use Rattle.protocol.specs.Bench.{benchTree, benchCells}
 

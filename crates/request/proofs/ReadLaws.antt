@@ -2,7 +2,6 @@
 -- Assumes nothing.
 use Prim.Native.Nat.{ℕ, zero, suc, _+_, _-_, _*_, _^_, _<_, _≤_}
 use native.Mathlib.Omega.{arith}
-use native.Mathlib.Nat.{not-suc-le-zero, le-of-suc-le-suc}
 use native.Mathlib.Numerals.{add-one}
 use native.Mathlib.Decide.{decLe}
 use mathlib.Core.Path.{_≡_, refl, sym, ap, ap₂, subst, _∙_}
@@ -14,7 +13,7 @@ use lib.Seq.{take-all}
 use lib.Dec.{eqb, leb}
 use Rattle.protocol.specs.Numbers.{done, unknownCommand, badParameter, PDI, opNode, opRead, opWriteExtended, maxDepth}
 use Rattle.protocol.specs.Bytes.{numberAfter, number}
-use Rattle.protocol.specs.Frame.{doubled, Received, readFrame, readDatagram}
+use Rattle.protocol.specs.Frame.{Received, readFrame, readDatagram}
 use Rattle.protocol.specs.Buffer.{over, Put}
 use Rattle.protocol.specs.Request.{Request, Asked, asksIndex, asksValue, fits, declined, askedIf, beforeZero, readIndexed, readValued, readShape, readRequest, readPayload, readSerial, readUdp}
 use Rattle.protocol.proofs.BufferLaws.{over-put, part-lent}

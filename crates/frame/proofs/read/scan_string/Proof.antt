@@ -1,7 +1,7 @@
 -- `frame::read::scan_string` meets its contract. Assumes nothing.
 use Prim.Native.Nat.{_+_, _-_, _^_, _<_}
 use native.Mathlib.Omega.{arith}
-use mathlib.Core.Path.{_≡_, sym, _∙_}
+use mathlib.Core.Path.{sym, _∙_}
 use borrow.Author.Needs.{needs}
 use lib.ListN.{length}
 use Rattle.frame.proofs.ReadLaws.{Scanning, begins, lone-on, doubled-on, whole, broken, unended}

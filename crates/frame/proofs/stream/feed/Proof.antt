@@ -6,7 +6,7 @@ use borrow.Author.Needs.{needs}
 use lib.ListN.{drop, length-take}
 use Rattle.frame.specs.declared.stream.Found.the-variants.{At}
 use Rattle.frame.specs.Stream.{placeOf}
-use Rattle.frame.proofs.CallLaws.{feeds-formless, feeds-no-room, feeds-run, state-written, state-length, state-content, emits-none, emits-pair, emits-long, closed-content, emits-closed}
+use Rattle.frame.proofs.CallLaws.{feeds-formless, feeds-no-room, feeds-run, state-written, state-length, emits-none, emits-pair, emits-long, closed-content, emits-closed}
 use Rattle.frame.proofs.stream.feed.Statement.{statement}
 use Rattle.frame.proofs.stream.feed.Tie as tie
 

@@ -1,6 +1,6 @@
 -- `frame::udp::datagram_data` meets its contract. Assumes nothing.
 use Prim.Native.Nat.{_≤_}
-use mathlib.Core.Path.{_≡_, sym, _∙_}
+use mathlib.Core.Path.{sym, _∙_}
 use borrow.Author.Needs.{needs}
 use lib.ListN.{length}
 use Rattle.protocol.proofs.FrameLaws.{readDatagram-refused}

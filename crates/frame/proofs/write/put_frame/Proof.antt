@@ -1,11 +1,11 @@
 -- `frame::write::put_frame` meets its contract. Assumes nothing.
 use Prim.Native.Nat.{ℕ, _+_, _-_, _*_, _≤_}
 use native.Mathlib.Omega.{arith}
-use mathlib.Core.Path.{_≡_, ap, subst}
+use mathlib.Core.Path.{ap, subst}
 use mathlib.Core.List.{List, [], _∷_, _++_}
 use borrow.Author.Needs.{needs}
 use lib.ListN.{length, length-append}
-use Rattle.protocol.specs.Numbers.{DLE, STX, ETX}
+use Rattle.protocol.specs.Numbers.{DLE, STX}
 use Rattle.protocol.specs.Frame.{doubled}
 use Rattle.protocol.specs.Buffer.{Put}
 use Rattle.protocol.proofs.FrameLaws.{length-doubled}

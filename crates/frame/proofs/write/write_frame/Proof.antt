@@ -1,5 +1,5 @@
 -- `frame::write::write_frame` meets its contract. Assumes nothing.
-use mathlib.Core.Path.{_≡_, sym, _∙_}
+use mathlib.Core.Path.{sym, _∙_}
 use borrow.Author.Needs.{needs}
 use Rattle.protocol.specs.Numbers.{roomSerial}
 use Rattle.protocol.proofs.FrameLaws.{size-only}
