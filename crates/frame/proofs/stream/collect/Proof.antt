@@ -1,6 +1,7 @@
 -- `frame::stream::collect` meets its contract. Assumes nothing.
 use borrow.Author.Tests.{lt-ltb, le-ltb}
 use borrow.Author.Needs.{needs}
+use Rattle.protocol.specs.Numbers.{maxContent}
 use Rattle.frame.specs.Stream.{collectOf}
 use Rattle.frame.proofs.stream.collect.Statement.{statement}
 use Rattle.frame.proofs.stream.collect.Tie as tie
@@ -10,11 +11,11 @@ add-t3 c = search needs
 
 returns : tie.Need-returns
 unfolding collectOf
-returns c = simp (lt-ltb _ _ (c .if1 .taken))
+returns c = simp (lt-ltb (c .before .args .len) maxContent (c .if1 .taken))
 
 returns-2 : tie.Need-returns-2
 unfolding collectOf
-returns-2 c = simp (le-ltb _ _ (c .if1 .left))
+returns-2 c = simp (le-ltb (c .before .args .len) maxContent (c .if1 .left))
 
 pub collect-spec : {M : Type 1} → statement M
 collect-spec = tie.close (tie.spec add-t3 returns returns-2)
