@@ -1,11 +1,13 @@
 -- `frame::stream::feed` meets its contract. Assumes nothing.
-use Prim.Native.Nat.{_+_, _-_, _≤_}
+use Prim.Native.Nat.{ℕ, _+_, _-_, _≤_}
 use native.Mathlib.Omega.{arith}
 use mathlib.Core.Path.{_≡_, sym, _∙_}
+use mathlib.Core.List.{List}
 use borrow.Author.Needs.{needs}
-use lib.ListN.{drop, length-take}
+use lib.ListN.{length, drop, length-take}
+use Rattle.protocol.specs.Buffer.{Emits}
 use Rattle.frame.specs.declared.stream.Found.the-variants.{At}
-use Rattle.frame.specs.Stream.{placeOf}
+use Rattle.frame.specs.Stream.{placeOf, standing, runFrom, outcome, fed, Feeds}
 use Rattle.frame.proofs.CallLaws.{feeds-formless, feeds-no-room, feeds-run, state-written, state-length, emits-none, emits-pair, emits-long, closed-content, emits-closed}
 use Rattle.frame.proofs.stream.feed.Statement.{statement}
 use Rattle.frame.proofs.stream.feed.Tie as tie
@@ -22,6 +24,28 @@ few : (c : tie.After-end) → c .end .given .0 .0 ≤ 258
 few c =
     let run = c .before .before .before .before .before .before .before .before in
     closed-content (run .run-bytes .ensures) (c .end .given .1) .3
+
+-- Behind the run, a call is what it emits for the run's event.
+abbrev run-of : tie.After-put-place → tie.After-run-bytes
+run-of c = c .before .before .before .before
+
+abbrev entry-of : tie.After-put-place → tie.Start
+entry-of c = start-of (run-of c .before .before)
+
+abbrev lent : tie.After-put-place → List ℕ
+lent c = entry-of c .args .state .now
+
+feeds-event : (c : tie.After-put-place) {n size : ℕ} {new : List ℕ}
+    → Emits (outcome (entry-of c .args .address) (runFrom (standing (lent c)) (lent c) (entry-of c .args .bytes .now) .event))
+    (entry-of c .args .out .now) n size new
+    → Feeds (fed (entry-of c .args .address) (lent c) (entry-of c .args .bytes .now) (length (entry-of c .args .out .now)))
+    (entry-of c .args .out .now) n (run-of c .run-bytes .result .taken) size (c .put-place .last .0) new
+feeds-event c e =
+    let run = run-of c in
+    let else1 = run .before .before in
+    let start = start-of else1 in
+    feeds-run (start .args .address) (start .args .state .now) (start .args .bytes .now) (start .args .out .now) (at else1) (else1 .if1 .left)
+    e (run .run-bytes .ensures .taken) (state-written (run .run-bytes .ensures) (c .put-place .ensures))
 
 place-of-requires : tie.Need-place-of-requires
 place-of-requires c κs = search needs
@@ -99,14 +123,8 @@ same-length-3 c = search needs
 returns-3 : tie.Need-returns-3
 returns-3 c =
     let put = c .before .before .before .before in
-    let run = put .before .before .before .before in
-    let else1 = run .before .before in
-    let start = start-of else1 in
-    let w = run .run-bytes .ensures in
-    feeds-run (start .args .address) (start .args .state .now) (start .args .bytes .now) (start .args .out .now) (at else1) (else1 .if1 .left)
-    (emits-none w (start .args .address) (start .args .out .now) (c .enum-told2 .given .1))
-    (w .taken)
-    (state-written w (put .put-place .ensures))
+    let start = entry-of put in
+    feeds-event put (emits-none (run-of put .run-bytes .ensures) (start .args .address) (start .args .out .now) (c .enum-told2 .given .1))
 
 same-length-4 : tie.Need-same-length-4
 same-length-4 c = search needs
@@ -114,14 +132,8 @@ same-length-4 c = search needs
 returns-4 : tie.Need-returns-4
 returns-4 c =
     let put = c .before .before .before .before in
-    let run = put .before .before .before .before in
-    let else1 = run .before .before in
-    let start = start-of else1 in
-    let w = run .run-bytes .ensures in
-    feeds-run (start .args .address) (start .args .state .now) (start .args .bytes .now) (start .args .out .now) (at else1) (else1 .if1 .left)
-    (emits-pair w (start .args .address) (start .args .out .now) (c .enum-told3 .given .1))
-    (w .taken)
-    (state-written w (put .put-place .ensures))
+    let start = entry-of put in
+    feeds-event put (emits-pair (run-of put .run-bytes .ensures) (start .args .address) (start .args .out .now) (c .enum-told3 .given .1))
 
 same-length-5 : tie.Need-same-length-5
 same-length-5 c = search needs
@@ -129,14 +141,8 @@ same-length-5 c = search needs
 returns-5 : tie.Need-returns-5
 returns-5 c =
     let put = c .before .before .before .before in
-    let run = put .before .before .before .before in
-    let else1 = run .before .before in
-    let start = start-of else1 in
-    let w = run .run-bytes .ensures in
-    feeds-run (start .args .address) (start .args .state .now) (start .args .bytes .now) (start .args .out .now) (at else1) (else1 .if1 .left)
-    (emits-long w (start .args .address) (start .args .out .now) (c .enum-told4 .given .1))
-    (w .taken)
-    (state-written w (put .put-place .ensures))
+    let start = entry-of put in
+    feeds-event put (emits-long (run-of put .run-bytes .ensures) (start .args .address) (start .args .out .now) (c .enum-told4 .given .1))
 
 same-length-6 : tie.Need-same-length-6
 same-length-6 c = search needs
@@ -148,14 +154,8 @@ returns-6 : tie.Need-returns-6
 returns-6 c =
     let end = c .before .before .before .before .before .before .before in
     let put = end .before .before .before .before in
-    let run = put .before .before .before .before in
-    let else1 = run .before .before in
-    let start = start-of else1 in
-    let w = run .run-bytes .ensures in
-    feeds-run (start .args .address) (start .args .state .now) (start .args .bytes .now) (start .args .out .now) (at else1) (else1 .if1 .left)
-    (emits-closed w (start .args .address) (end .end .given .1) (put .put-place .ensures) (c .before .before .close .ensures))
-    (w .taken)
-    (state-written w (put .put-place .ensures))
+    feeds-event put
+    (emits-closed (run-of put .run-bytes .ensures) (entry-of put .args .address) (end .end .given .1) (put .put-place .ensures) (c .before .before .close .ensures))
 
 pub feed-spec : {M : Type 1} → statement M
 feed-spec =
