@@ -1,0 +1,14 @@
+-- Lookups: the records that name a node.
+use Prim.Native.Nat.{ℕ, _+_, _*_}
+use mathlib.Core.List.{List}
+use lib.ListN.{getD, drop}
+use lib.Dec.{eqb}
+use Rattle.protocol.specs.Tree.{placesFrom}
+use Rattle.tree.specs.Seen.{recordsFrom}
+use Rattle.tree.specs.declared.find.Table.{Table}
+
+-- The places of the records of a table that name a node, which each does by its first byte.
+unfoldable pub belonging : List ℕ → Table → ℕ → List ℕ
+belonging bs table node =
+    placesFrom (table .first) (λ b. eqb b node)
+    (drop (table .first) (recordsFrom (table .size) (λ r. getD r 0 0) (table .end) (drop (table .start) bs)))

@@ -1,0 +1,50 @@
+// Numbers read from lent bytes. A byte past the end is 0.
+ghost use mathlib.Core.Path.{_≡_};
+ghost use Prim.Native.Nat.{_+_, _*_, _<_, _^_};
+ghost use lib.ListN.{getD};
+ghost use Rattle.tree.specs.Seen.{halfAt, wordAt};
+
+pub(crate) fn byte_at(bs: &[u8], at: usize) -> u8
+    ensures { λ r. ⌜ r ≡ getD (now (bs .entry)) at 0 ⌝ }
+{
+    if at < bs.len() {
+        return bs[at];
+    }
+    0
+}
+
+// A byte as a place or a count.
+pub(crate) fn wide(b: u8) -> usize
+    ensures { λ r. ⌜ r ≡ b ⌝ }
+{
+    b as usize
+}
+
+// A number with one byte more behind it.
+fn with_byte(high: u32, low: u8) -> u32
+    requires { ⌜ high < 2 ^ 24 ⌝ }
+    ensures { λ r. ⌜ r ≡ high * 2 ^ 8 + low ⌝ }
+{
+    high * 256 + low as u32
+}
+
+// A number of 16 bits at a place, the high byte first.
+pub(crate) fn half_at(bs: &[u8], at: usize) -> u16
+    requires { ⌜ at + 1 < 2 ^ 64 ⌝ }
+    ensures { λ r. ⌜ r ≡ halfAt at (now (bs .entry)) ⌝ }
+{
+    let high = byte_at(bs, at);
+    let low = byte_at(bs, at + 1);
+    high as u16 * 256 + low as u16
+}
+
+// A number of 32 bits at a place.
+pub(crate) fn word_at(bs: &[u8], at: usize) -> u32
+    requires { ⌜ at + 3 < 2 ^ 64 ⌝ }
+    ensures { λ r. ⌜ r ≡ wordAt at (now (bs .entry)) ⌝ }
+{
+    let one = with_byte(0, byte_at(bs, at));
+    let two = with_byte(one, byte_at(bs, at + 1));
+    let three = with_byte(two, byte_at(bs, at + 2));
+    with_byte(three, byte_at(bs, at + 3))
+}

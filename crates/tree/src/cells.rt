@@ -1,0 +1,107 @@
+// Cells: the check of their form, a word and a mark read and stored, and postings.
+use super::CELL_SIZE;
+use super::NOT_LIVE;
+use super::bytes;
+use super::check;
+use super::record;
+use protocol::DONE;
+use protocol::UNSOUND;
+ghost use mathlib.Core.Path.{_≡_};
+ghost use Prim.Native.Nat.{_+_, _≤_};
+ghost use lib.ListN.{length};
+ghost use Rattle.protocol.specs.Bytes.{word};
+ghost use Rattle.protocol.specs.Buffer.{putAt};
+ghost use Rattle.protocol.specs.Tree.{cellIn};
+ghost use Rattle.tree.specs.Cells.{hasCells, cellsIn, withWord, withMark};
+ghost use Rattle.tree.specs.Lent.{Posts, postIn};
+
+// Whether bytes are the form of cells: whole ones, each with a mark of 0 or 1.
+pub fn has_cells(cells: &[u8]) -> bool
+    ensures { λ r. ⌜ r ≡ hasCells (now (cells .entry)) ⌝ }
+{
+    if cells.len() % CELL_SIZE != 0 {
+        return false;
+    }
+    let count = cells.len() / CELL_SIZE;
+    let mut k = 0;
+    while k < count {
+        if 1 < cells[k * CELL_SIZE + 4] {
+            return false;
+        }
+        k += 1;
+    }
+    true
+}
+
+// How many cells there are.
+pub fn count(cells: &[u8]) -> usize
+    ensures { λ r. ⌜ r ≡ length (cellsIn (now (cells .entry))) ⌝ }
+{
+    cells.len() / CELL_SIZE
+}
+
+// The word of the cell at a place; 0 where there is none.
+pub fn read_word(cells: &[u8], place: usize) -> u32
+    ensures { λ r. ⌜ r ≡ cellIn (cellsIn (now (cells .entry))) place .word ⌝ }
+{
+    if cells.len() / CELL_SIZE <= place {
+        return 0;
+    }
+    bytes::word_at(cells, place * CELL_SIZE)
+}
+
+// Whether the cell at a place is marked ready.
+pub fn is_ready(cells: &[u8], place: usize) -> bool
+    ensures { λ r. ⌜ r ≡ cellIn (cellsIn (now (cells .entry))) place .ready ⌝ }
+{
+    if cells.len() / CELL_SIZE <= place {
+        return false;
+    }
+    cells[place * CELL_SIZE + 4] == 1
+}
+
+// A word stored in the cell at a place; nothing where there is none.
+pub fn store_word(cells: &mut [u8], place: usize, n: u32)
+    ensures { λ _. ⌜ now (cells .exit) ≡ withWord place n (now (cells .entry)) ⌝ }
+{
+    if cells.len() / CELL_SIZE <= place {
+        return;
+    }
+    let at = place * CELL_SIZE;
+    cells[at] = (n / 16777216 % 256) as u8;
+    cells[at + 1] = (n / 65536 % 256) as u8;
+    cells[at + 2] = (n / 256 % 256) as u8;
+    cells[at + 3] = (n % 256) as u8;
+}
+
+// The mark of the cell at a place set.
+fn store_mark(cells: &mut [u8], place: usize, ready: bool)
+    ensures { λ _. ⌜ now (cells .exit) ≡ withMark place ready (now (cells .entry)) ⌝ }
+{
+    if cells.len() / CELL_SIZE <= place {
+        return;
+    }
+    let at = place * CELL_SIZE + 4;
+    if ready {
+        cells[at] = 1;
+    } else {
+        cells[at] = 0;
+    }
+}
+
+// A reading posted to the cell of a live property, by the property's place: 1, 14 or 0. Marked not ready, the word stays.
+pub fn post(tree: &[u8], cells: &mut [u8], place: usize, n: u32, ready: bool) -> u8
+    ensures { λ r. ⌜ Posts (postIn (now (tree .entry)) (now (cells .entry)) place n ready) r (now (cells .exit)) ⌝ }
+{
+    if check::check(tree, cells) != DONE {
+        return UNSOUND;
+    }
+    if !record::read_fields(tree, place).is_live() {
+        return NOT_LIVE;
+    }
+    if ready {
+        store_word(cells, place, n);
+    }
+    store_mark(cells, place, ready);
+    DONE
+}

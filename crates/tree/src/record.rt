@@ -1,0 +1,142 @@
+// A property's numbers, and the texts of nodes and properties.
+use super::ENUMERATION;
+use super::NODE_SIZE;
+use super::PROPERTY_SIZE;
+use super::bytes;
+use super::texts;
+ghost use mathlib.Core.Path.{_≡_};
+ghost use Prim.Native.Nat.{_+_, _-_, _≤_, _<_};
+ghost use lib.ListN.{length, getD, take};
+ghost use Rattle.protocol.specs.Numbers.{bitRead, bitWrite, bitLive, bitSigned};
+ghost use Rattle.protocol.specs.Bytes.{bit, text, ordered, atMost};
+ghost use Rattle.protocol.specs.Buffer.{Put};
+ghost use Rattle.protocol.specs.Tree.{nodeIn, propertyIn};
+ghost use Rattle.protocol.specs.Answer.{recordTexts};
+ghost use Rattle.tree.specs.Form.{propertiesStart};
+ghost use Rattle.tree.specs.Seen.{seen, optionCount};
+ghost use Rattle.tree.specs.Lent.{FieldsAre};
+
+// What a property's record holds beside its texts.
+pub struct Fields {
+    pub node: u8,
+    pub kind: u8,
+    pub min: u32,
+    pub max: u32,
+    pub attribute: u16,
+    pub format: u16,
+}
+
+impl Fields {
+    pub fn can_read(self) -> bool
+        ensures { λ r. ⌜ r ≡ bit bitRead (self .attribute) ⌝ }
+    {
+        self.attribute % 2 == 1
+    }
+
+    pub fn can_write(self) -> bool
+        ensures { λ r. ⌜ r ≡ bit bitWrite (self .attribute) ⌝ }
+    {
+        self.attribute / 2 % 2 == 1
+    }
+
+    pub fn is_live(self) -> bool
+        ensures { λ r. ⌜ r ≡ bit bitLive (self .attribute) ⌝ }
+    {
+        self.attribute / 8192 % 2 == 1
+    }
+
+    pub fn is_signed(self) -> bool
+        ensures { λ r. ⌜ r ≡ bit bitSigned (self .format) ⌝ }
+    {
+        self.format / 32768 % 2 == 1
+    }
+}
+
+// A word as it is compared: of a signed one the sign bit is turned over.
+fn ordered_word(signed: bool, n: u32) -> u32
+    ensures { λ r. ⌜ r ≡ ordered signed n ⌝ }
+{
+    if !signed {
+        return n;
+    }
+    if n < 2147483648 {
+        return n + 2147483648;
+    }
+    n - 2147483648
+}
+
+// Whether one word is at most another, signed or not.
+pub fn at_most(signed: bool, m: u32, n: u32) -> bool
+    ensures { λ r. ⌜ r ≡ atMost signed m n ⌝ }
+{
+    ordered_word(signed, m) <= ordered_word(signed, n)
+}
+
+// Where the property records begin.
+pub(crate) fn properties_start(tree: &[u8]) -> usize
+    ensures { λ r. ⌜ r ≡ propertiesStart (getD (now (tree .entry)) 0 0) ⌝ }
+{
+    2 + bytes::wide(bytes::byte_at(tree, 0)) * NODE_SIZE
+}
+
+// How many texts are the unit or options.
+pub(crate) fn option_count(kind: u8, max: u32) -> usize
+    ensures { λ r. ⌜ r ≡ optionCount kind max ⌝ }
+{
+    if kind == ENUMERATION {
+        return (max % 16) as usize + 1;
+    }
+    1
+}
+
+// The numbers of the property at a place; all 0 where there is none.
+pub fn read_fields(tree: &[u8], place: usize) -> Fields
+    ensures { λ r. ⌜ FieldsAre (propertyIn (seen (now (tree .entry))) place) r ⌝ }
+{
+    if bytes::wide(bytes::byte_at(tree, 1)) <= place {
+        return Fields {
+            node: 0,
+            kind: 0,
+            min: 0,
+            max: 0,
+            attribute: 0,
+            format: 0,
+        };
+    }
+    let at = properties_start(tree) + place * PROPERTY_SIZE;
+    Fields {
+        node: bytes::byte_at(tree, at),
+        kind: bytes::byte_at(tree, at + 1),
+        min: bytes::word_at(tree, at + 2),
+        max: bytes::word_at(tree, at + 6),
+        attribute: bytes::half_at(tree, at + 10),
+        format: bytes::half_at(tree, at + 12),
+    }
+}
+
+// A node's name, with the zero that ends it, put at a place of an output, as far as there is room. Returns the next place.
+pub fn put_name(tree: &[u8], node: usize, out: &mut [u8], at: usize) -> usize
+    ensures { λ r. ⌜ Put at (take (length (now (out .entry)) - at) (text (nodeIn (seen (now (tree .entry))) node .name))) (now (out .entry)) r (now (out .exit)) ⌝ }
+{
+    if bytes::wide(bytes::byte_at(tree, 0)) <= node {
+        return texts::put_texts(tree, tree.len(), 1, out, at);
+    }
+    let from = bytes::half_at(tree, 3 + node * NODE_SIZE) as usize;
+    texts::put_texts(tree, from, 1, out, at)
+}
+
+// A property's label and its unit or options, each with its zero, likewise.
+pub fn put_record_texts(tree: &[u8], place: usize, out: &mut [u8], at: usize) -> usize
+    ensures { λ r. ⌜ Put at (take (length (now (out .entry)) - at) (recordTexts (propertyIn (seen (now (tree .entry))) place))) (now (out .entry)) r (now (out .exit)) ⌝ }
+{
+    if bytes::wide(bytes::byte_at(tree, 1)) <= place {
+        return texts::put_texts(tree, tree.len(), 1, out, at);
+    }
+    let record = properties_start(tree) + place * PROPERTY_SIZE;
+    let count = option_count(
+        bytes::byte_at(tree, record + 1),
+        bytes::word_at(tree, record + 6),
+    );
+    let from = bytes::half_at(tree, record + 14) as usize;
+    texts::put_texts(tree, from, count + 1, out, at)
+}

@@ -1,0 +1,107 @@
+// Texts in lent bytes, each ended by a zero: their end found, and copied.
+use super::Found;
+use super::bytes;
+ghost use mathlib.Core.Path.{_≡_};
+ghost use Prim.Native.Nat.{_-_, _≤_};
+ghost use lib.ListN.{length, take, drop};
+ghost use Rattle.protocol.specs.Bytes.{texts};
+ghost use Rattle.protocol.specs.Buffer.{Put};
+ghost use Rattle.tree.specs.Seen.{textsFrom};
+ghost use Rattle.tree.specs.Check.{stepOf, textsEndIn};
+ghost use Rattle.tree.specs.Lent.{foundOf};
+
+// One byte of some texts: they go on, with so many to end, or have ended; or the byte is no character.
+pub(crate) enum Step {
+    On(usize),
+    Ended,
+    Bad,
+}
+
+fn step_on(left: usize, b: u8) -> Step
+    ensures { λ r. ⌜ r ≡ stepOf left b ⌝ }
+{
+    if b == 0 {
+        if left <= 1 {
+            return Step::Ended;
+        }
+        return Step::On(left - 1);
+    }
+    if b < 0x20 {
+        return Step::Bad;
+    }
+    if 0x7E < b {
+        return Step::Bad;
+    }
+    Step::On(left)
+}
+
+// The lesser of the end of the bytes and a place so far behind another.
+fn end_of_room(len: usize, from: usize, room: usize) -> usize
+    requires { ⌜ from ≤ len ⌝ }
+{
+    if room < len - from {
+        return from + room;
+    }
+    len
+}
+
+// The place after some texts that begin at a place and take at most so many bytes; nothing where a byte is no character, or
+// bytes or room end before the texts do.
+pub(crate) fn texts_end(tree: &[u8], from: usize, count: usize, room: usize) -> Found
+    requires { ⌜ from ≤ length (now tree) ⌝ }
+    ensures { λ r. ⌜ r ≡ foundOf (textsEndIn (now (tree .entry)) room count from) ⌝ }
+{
+    let end = end_of_room(tree.len(), from, room);
+    let mut left = count;
+    let mut at = from;
+    while at < end {
+        let b = tree[at];
+        at += 1;
+        match step_on(left, b) {
+            Step::On(next) => {
+                left = next;
+            }
+            Step::Ended => return Found::At(at),
+            Step::Bad => return Found::Nothing,
+        }
+    }
+    Found::Nothing
+}
+
+// Some texts that begin at a place, each with its zero, put at a place of an output, as far as there is room.
+pub(crate) fn put_texts(tree: &[u8], from: usize, count: usize, out: &mut [u8], at: usize) -> usize
+    ensures { λ r. ⌜ Put at (take (length (now (out .entry)) - at) (texts (textsFrom count (drop from (now (tree .entry)))))) (now (out .entry)) r (now (out .exit)) ⌝ }
+{
+    let mut left = count;
+    let mut next = at;
+    let mut i = from;
+    while next < out.len() {
+        if left == 0 {
+            return next;
+        }
+        let b = bytes::byte_at(tree, i);
+        out[next] = b;
+        next += 1;
+        i = after(tree.len(), i);
+        left = left_after(left, b);
+    }
+    next
+}
+
+// The place behind one, which stays where the bytes have ended.
+fn after(len: usize, i: usize) -> usize {
+    if i < len {
+        return i + 1;
+    }
+    i
+}
+
+// How many texts are still to end behind a byte.
+fn left_after(left: usize, b: u8) -> usize
+    requires { ⌜ 1 ≤ left ⌝ }
+{
+    if b == 0 {
+        return left - 1;
+    }
+    left
+}
