@@ -20,16 +20,15 @@ propertiesStart nodes = 2 + nodes * nodeSize
 abbrev pub textsStart : ℕ → ℕ → ℕ
 textsStart nodes properties = propertiesStart nodes + properties * propertySize
 
--- Records one behind the other, each with the place of its texts, and the texts themselves. `record` makes a record for a
--- place; `textsIn` gives the texts that lie there.
-module _ {A : Type 0} (recordFor : ℕ → A → List ℕ) (textsIn : A → List ℕ) where
+-- The texts of all entries, and their records one behind the other, each with the place where its texts lie.
+module _ {A : Type 0} (textsIn : A → List ℕ) where
   unfoldable pub allTexts : List A → List ℕ
   allTexts [] = []
   allTexts (x ∷ xs) = textsIn x ++ allTexts xs
 
-  unfoldable pub allRecords : ℕ → List A → List ℕ
-  allRecords at [] = []
-  allRecords at (x ∷ xs) = recordFor at x ++ allRecords (at + length (textsIn x)) xs
+  unfoldable pub allRecords : (ℕ → A → List ℕ) → ℕ → List A → List ℕ
+  allRecords recordFor at [] = []
+  allRecords recordFor at (x ∷ xs) = recordFor at x ++ allRecords recordFor (at + length (textsIn x)) xs
 
 -- A node: its parent, and the place of its name.
 abbrev pub nodeTexts : Node → List ℕ
@@ -46,10 +45,10 @@ propertyRecord at p =
 
 -- The names of all nodes, then the labels and units or options of all properties.
 abbrev pub namesOf : Tree → List ℕ
-namesOf t = allTexts nodeRecord nodeTexts (t .nodes)
+namesOf t = allTexts nodeTexts (t .nodes)
 
 abbrev pub labelsOf : Tree → List ℕ
-labelsOf t = allTexts propertyRecord recordTexts (t .properties)
+labelsOf t = allTexts recordTexts (t .properties)
 
 abbrev pub namesStart : Tree → ℕ
 namesStart t = textsStart (length (t .nodes)) (length (t .properties))
@@ -59,6 +58,6 @@ unfoldable pub formOf : Tree → List ℕ
 formOf t =
     length (t .nodes)
     ∷ length (t .properties)
-    ∷ (allRecords nodeRecord nodeTexts (namesStart t) (t .nodes)
-    ++ (allRecords propertyRecord recordTexts (namesStart t + length (namesOf t)) (t .properties)
+    ∷ (allRecords nodeTexts nodeRecord (namesStart t) (t .nodes)
+    ++ (allRecords recordTexts propertyRecord (namesStart t + length (namesOf t)) (t .properties)
     ++ (namesOf t ++ labelsOf t)))
