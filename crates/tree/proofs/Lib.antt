@@ -2,3 +2,6 @@
 pub mod RecordLaws
 pub mod ScanLaws
 pub mod TableLaws
+pub mod NumberLaws
+pub mod NodeLaws
+pub mod PropertyLaws
