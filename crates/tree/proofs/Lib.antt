@@ -5,3 +5,4 @@ pub mod TableLaws
 pub mod NumberLaws
 pub mod NodeLaws
 pub mod PropertyLaws
+pub mod DepthLaws

@@ -4,7 +4,7 @@ use Prim.Native.Nat.{ℕ, zero, suc, _+_, _-_, _<_, _≤_}
 use native.Mathlib.Omega.{arith}
 use native.Mathlib.Nat.{not-suc-le-zero}
 use mathlib.Core.Path.{_≡_, refl, sym, ap, ap₂, subst, _∙_}
-use mathlib.Core.Bool.{Bool, true, false, cond, _&&_}
+use mathlib.Core.Bool.{Bool, true, false, cond, _&&_, false≢true}
 use mathlib.Core.List.{List, [], _∷_, _++_, append-assoc}
 use mathlib.Core.Option.{Option, none, some, Option·none-ne-some, Option·some-injective}
 use borrow.Author.Tests.{eqb-true, eqb-false, leb-true, leb-false, eq-eqb, ne-eqb, le-leb, lt-leb}
@@ -19,9 +19,6 @@ use Rattle.tree.specs.declared.texts.Step.{Step}
 use Rattle.tree.specs.declared.texts.Step.the-variants.{On, Ended, Bad}
 use Rattle.tree.specs.Seen.{firstText, afterText, textsFrom}
 use Rattle.tree.specs.Check.{stepOf, textsEnd}
-
-pub untrue : false ≡ true → ⊥
-untrue h = let z : _≡_ {A = ℕ} 0 1 = cc in omega arith
 
 -- One byte in front of texts: a zero ends the first of them, any other byte begins it.
 pub texts-zero : (n : ℕ) (xs : List ℕ) → textsFrom (suc n) (0 ∷ xs) ≡ [] ∷ textsFrom n xs
@@ -145,7 +142,7 @@ characters b s h = and-right (isCharacter b) (isText s) h
 pub text-seen : (s more : List ℕ) → isText s ≡ true → firstText (text s ++ more) ≡ s
 unfolding beforeZero text
 text-seen [] more h = refl
-text-seen (zero ∷ s) more h = absurd (untrue (character zero s h))
+text-seen (zero ∷ s) more h = absurd (false≢true (character zero s h))
 text-seen (suc b ∷ s) more h =
     ap (λ k. take k (suc b ∷ (text s ++ more))) (zero-after (suc b) (text s ++ more) (eqb·suc-zero b))
     ∙ ap (λ l. suc b ∷ l) (text-seen s more (characters (suc b) s h))
@@ -153,7 +150,7 @@ text-seen (suc b ∷ s) more h =
 pub text-passed : (s more : List ℕ) → isText s ≡ true → afterText (text s ++ more) ≡ more
 unfolding beforeZero text
 text-passed [] more h = refl
-text-passed (zero ∷ s) more h = absurd (untrue (character zero s h))
+text-passed (zero ∷ s) more h = absurd (false≢true (character zero s h))
 text-passed (suc b ∷ s) more h =
     ap (λ k. drop k (text s ++ more)) (zero-after (suc b) (text s ++ more) (eqb·suc-zero b))
     ∙ text-passed s more (characters (suc b) s h)
@@ -178,7 +175,7 @@ scan-forth (s ∷ ss) [] more (suc room) at h k =
     end-on (suc (suc (length ss))) 0 (take room (texts (s ∷ ss) ++ more)) at (step-next (length ss))
     ∙ scan-forth ss s more room (suc at) h (omega arith)
     ∙ ap some (omega arith)
-scan-forth ss (zero ∷ s) more (suc room) at h k = absurd (untrue (and-left false (every isText ss) h))
+scan-forth ss (zero ∷ s) more (suc room) at h k = absurd (false≢true (and-left false (every isText ss) h))
 scan-forth ss (suc b ∷ s) more (suc room) at h k =
     let one : isText (suc b ∷ s) ≡ true = and-left (isText (suc b ∷ s)) (every isText ss) h in
     let rest : every isText (s ∷ ss) ≡ true =
