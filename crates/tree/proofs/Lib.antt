@@ -1,8 +1,10 @@
 -- Laws of the lent forms, and what the proofs of this crate's functions apply to the places of their code.
 pub mod RecordLaws
+pub mod SameLaws
 pub mod ScanLaws
 pub mod TableLaws
 pub mod NumberLaws
 pub mod NodeLaws
 pub mod PropertyLaws
 pub mod DepthLaws
+pub mod FormLaws

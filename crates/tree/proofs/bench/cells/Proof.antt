@@ -1,11 +1,14 @@
+-- `tree::bench::cells` meets its contract. Assumes nothing.
+use mathlib.Core.Path.{refl}
+use Rattle.protocol.specs.Bytes.{word}
+use Rattle.protocol.specs.Bench.{benchCells}
+use Rattle.tree.specs.Cells.{cellForm, cellsForm}
 use Rattle.tree.proofs.bench.cells.Statement.{statement}
 use Rattle.tree.proofs.bench.cells.Tie as tie
-use Rattle.tree.proofs.bench.cells.Reads as reads
-use Rattle.tree.proofs.bench.cells.Lts as lts
 
--- src/bench.rt:203:1
 returns : tie.Need-returns
-returns c = ?
+unfolding cellsForm cellForm word benchCells
+returns c = refl
 
 pub cells-spec : {M : Type 1} → statement M
 cells-spec = tie.close (tie.spec returns)
