@@ -8,3 +8,4 @@ pub mod NodeLaws
 pub mod PropertyLaws
 pub mod DepthLaws
 pub mod FormLaws
+pub mod CheckLaws

@@ -95,6 +95,18 @@ module _ {A : Type 0} (bs : List ℕ) (size : ℕ) (read : List ℕ → A) (text
         → recordEnd (recordFor at x ++ rest) at ≡ some (at + length (textsIn x))
 
   module _ (w : Written) where
+    pub records-size : (xs : List A) (at : ℕ) → length (allRecords textsIn recordFor at xs) ≡ length xs * size
+    unfolding allRecords
+    records-size [] at = sym (zero-mul size)
+    records-size (x ∷ xs) at =
+        omega (
+          arith,
+          length-append (recordFor at x) (allRecords textsIn recordFor (at + length (textsIn x)) xs),
+          w .sized at x,
+          records-size xs (at + length (textsIn x)),
+          suc-mul (length xs) size,
+        )
+
     -- The first record of several, and those behind it.
     record First (x : A) (xs : List A) (at : ℕ) (rest more : List ℕ) : Type 0 where
       good : ok x ≡ true
@@ -158,3 +170,17 @@ module _ {A : Type 0} (bs : List ℕ) (size : ℕ) (read : List ℕ → A) (text
         ∙ ap (λ l. recordsEnd size recordEnd (length xs) l next) (f .behind)
         ∙ end-again xs next rest more (f .others) (f .later) (f .there)
         ∙ ap some (omega (arith, f .total))
+
+-- Texts of good entries, none longer than a bound.
+module _ {A : Type 0} (textsIn : A → List ℕ) (ok : A → Bool) (bound : ℕ) (short : (x : A) → ok x ≡ true → length (textsIn x) ≤ bound) where
+  pub texts-bound : (xs : List A) → every ok xs ≡ true → length (allTexts textsIn xs) ≤ length xs * bound
+  unfolding allTexts every
+  texts-bound [] h = omega arith
+  texts-bound (x ∷ xs) h =
+      omega (
+        arith,
+        length-append (textsIn x) (allTexts textsIn xs),
+        short x (and-left (ok x) (every ok xs) h),
+        texts-bound xs (and-right (ok x) (every ok xs) h),
+        suc-mul (length xs) bound,
+      )
