@@ -9,3 +9,4 @@ pub mod PropertyLaws
 pub mod DepthLaws
 pub mod FormLaws
 pub mod CheckLaws
+pub mod ByteLaws
