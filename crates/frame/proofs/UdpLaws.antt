@@ -95,34 +95,6 @@ zeros-over (a ∷ b ∷ []) h = absurd (omega (arith, h))
 zeros-over (a ∷ b ∷ c ∷ []) h = absurd (omega (arith, h))
 zeros-over (a ∷ b ∷ c ∷ d ∷ s) h = refl
 
--- Bytes copied one behind the other.
-pub record Filling (bs old out : List ℕ) (i : ℕ) : Type 0 where
-  pub within : i ≤ length bs
-  pub put : Put 0 (take i bs) old i out
-
-module _ (bs old : List ℕ) (room : length bs ≤ length old) where
-  pub fill-begins : Filling bs old old 0
-  fill-begins = record { within = omega arith; put = put-nil 0 old }
-
-  pub fill-more : {out out′ : List ℕ} {i i′ : ℕ} → Filling bs old out i → i < length bs → Put i (getD bs i 0 ∷ []) out i′ out′
-      → Filling bs old out′ i′
-  fill-more {out′ = out′} {i = i} {i′ = i′} f h p =
-      let next : i′ ≡ suc i = p .next ∙ add-one i in
-      record {
-        within = omega (arith, next);
-        put =
-            subst (λ l. Put 0 l old i′ out′)
-            (sym (ap (λ n. take n bs) next ∙ take-suc bs i 0 h))
-            (puts (omega arith) (f .put) p);
-      }
-
-  pub fill-same : {out : List ℕ} {i : ℕ} → Filling bs old out i → length out ≡ length old
-  fill-same {i = i} f =
-      ap length (f .put .bytes) ∙ length-put old 0 (take i bs) (omega (arith, f .put .next, f .within))
-
-  pub fill-ends : {out : List ℕ} {i : ℕ} → Filling bs old out i → length bs ≤ i → Put 0 bs old i out
-  fill-ends {out} {i} f h = subst (λ l. Put 0 l old i out) (take-all i bs h) (f .put)
-
 -- Data at the front of the part from byte 4 on, and four zeros before it, are a datagram at the front.
 pub zeros-before : (d old part : List ℕ) → 4 ≤ length old → part ≡ over d (drop 4 old)
     → over (0 ∷ 0 ∷ 0 ∷ 0 ∷ []) (take 4 old ++ part) ≡ over (datagram d) old

@@ -4,7 +4,7 @@ ghost use mathlib.Core.List.{[], _∷_};
 ghost use Prim.Native.Nat.{_+_, _<_, _≤_};
 ghost use lib.ListN.{length};
 ghost use Rattle.protocol.specs.Frame.{doubled};
-ghost use Rattle.protocol.specs.Buffer.{Put};
+ghost use Rattle.protocol.specs.Buffer.{fitting, Put};
 
 // One byte at a place. Returns the next place.
 pub(crate) fn put(out: &mut [u8], at: usize, b: u8) -> usize
@@ -27,14 +27,18 @@ pub(crate) fn put_doubled(out: &mut [u8], at: usize, b: u8) -> usize
     next
 }
 
-// Bytes copied to the front of an output that has room for them. Returns how many.
-pub(crate) fn put_all(payload: &[u8], out: &mut [u8]) -> usize
-    requires { ⌜ length (now payload) ≤ length (now out) ⌝ }
-    ensures { λ r. ⌜ Put 0 (now (payload .entry)) (now (out .entry)) r (now (out .exit)) ⌝ }
+// Bytes put at a place of an output, as far as there is room. Returns the next place.
+pub fn put_all(bs: &[u8], out: &mut [u8], at: usize) -> usize
+    ensures { λ r. ⌜ Put at (fitting at (now (bs .entry)) (now (out .entry))) (now (out .entry)) r (now (out .exit)) ⌝ }
 {
+    let mut next = at;
     let mut i = 0;
-    while i < payload.len() {
-        i = put(out, i, payload[i]);
+    while i < bs.len() {
+        if out.len() <= next {
+            return next;
+        }
+        next = put(out, next, bs[i]);
+        i += 1;
     }
-    i
+    next
 }

@@ -1,5 +1,5 @@
 // PENKO's TP: frames over serial and datagrams over UDP, written and read.
-mod buffer;
+pub mod buffer;
 mod checksum;
 pub mod read;
 mod size;

@@ -230,7 +230,7 @@ fn close(address: u8, content: &[u8], out: &mut [u8]) -> Written
         return Written { number, len: 0 };
     }
     let end = checked.len + 1;
-    let len = buffer::put_all(&content[1..end], out);
+    let len = buffer::put_all(&content[1..end], out, 0);
     Written { number: DONE, len }
 }
 

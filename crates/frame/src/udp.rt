@@ -78,7 +78,7 @@ pub fn write_datagram(payload: &[u8], out: &mut [u8]) -> Written
     if number != DONE {
         return Written { number, len: 0 };
     }
-    let len = buffer::put_all(payload, &mut out[4..]);
+    let len = buffer::put_all(payload, &mut out[4..], 0);
     put_zeros(out);
     Written {
         number: DONE,

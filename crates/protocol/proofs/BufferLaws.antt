@@ -8,9 +8,9 @@ use mathlib.Core.Path.{_≡_, refl, sym, ap, ap₂, subst, _∙_}
 use mathlib.Core.List.{List, [], _∷_, _++_, append-assoc, append-nil}
 use borrow.Rule.Slice.PartMut.{putMid}
 use borrow.Author.Tests.{lt-ltb, le-ltb, eq-eqb, ne-eqb}
-use lib.ListN.{length, take, drop, set, take-append-drop, drop-of-length-le, length-append, length-take, length-drop}
-use lib.Seq.{take-all, set-split, take-at, drop-drop, drop-append-add}
-use Rattle.protocol.specs.Buffer.{putAt, over, Put, Emits}
+use lib.ListN.{length, getD, take, drop, set, take-append-drop, drop-of-length-le, length-append, length-take, length-drop}
+use lib.Seq.{take-all, take-suc, length-take-le, set-split, take-at, drop-drop, drop-append-add}
+use Rattle.protocol.specs.Buffer.{putAt, over, fitting, Put, Emits}
 use Rattle.protocol.specs.Numbers.{done, noRoom}
 use Rattle.protocol.specs.Frame.{Received, received, refused, sizeNumber, ifSized, ifRoom}
 
@@ -76,6 +76,47 @@ puts {at} {r} {r′} {ys} {zs} {old} {mid} {new} h p q =
       next = omega (arith, p .next, q .next, length-append ys zs);
       bytes = q .bytes ∙ ap₂ (λ n b. putAt n zs b) (p .next) (p .bytes) ∙ put-put old at ys zs h;
     }
+
+-- Bytes that were put as far as there was room, where there is room for all.
+pub put-fits : {at r : ℕ} {ys old new : List ℕ} → at + length ys ≤ length old → Put at (fitting at ys old) old r new → Put at ys old r new
+put-fits {at} {r} {ys} {old} {new} h p = subst (λ l. Put at l old r new) (take-all (length old - at) ys (omega (arith, h))) p
+
+-- Bytes put one behind the other, from a place on.
+pub record Filling (bs old : List ℕ) (at : ℕ) (out : List ℕ) (next i : ℕ) : Type 0 where
+  pub within : i ≤ length bs
+  pub room : i ≤ length old - at
+  pub same : length out ≡ length old
+  pub put : Put at (take i bs) old next out
+
+module _ (bs old : List ℕ) (at : ℕ) where
+  pub fill-begins : Filling bs old at old at 0
+  fill-begins = record { within = omega arith; room = omega arith; same = refl; put = put-nil at old }
+
+  fill-next : {out : List ℕ} {next i : ℕ} → Filling bs old at out next i → next ≡ at + i
+  fill-next {i = i} f = f .put .next ∙ ap (λ n. at + n) (length-take-le i bs (f .within))
+
+  pub fill-more : {out out′ : List ℕ} {next next′ i : ℕ} → Filling bs old at out next i → i < length bs → next < length out
+      → Put next (getD bs i 0 ∷ []) out next′ out′ → Filling bs old at out′ next′ (i + 1)
+  fill-more {out} {out′} {next} {next′} {i} f h l p =
+      record {
+        within = omega arith;
+        room = omega (arith, fill-next f, f .same, l);
+        same = ap length (p .bytes) ∙ length-put out next (getD bs i 0 ∷ []) (omega (arith, l)) ∙ f .same;
+        put =
+            subst (λ l. Put at l old next′ out′)
+            (sym (ap (λ n. take n bs) (add-one i) ∙ take-suc bs i 0 h))
+            (puts (omega (arith, fill-next f, f .same, l)) (f .put) p);
+      }
+
+  -- It ends where there is no room, or with the last byte.
+  pub fill-full : {out : List ℕ} {next i : ℕ} → Filling bs old at out next i → length old ≤ next → Put at (fitting at bs old) old next out
+  fill-full {out} {next} {i} f h =
+      let full : i ≡ length old - at = omega (arith, fill-next f, f .room, h) in
+      subst (λ n. Put at (take n bs) old next out) full (f .put)
+
+  pub fill-ends : {out : List ℕ} {next i : ℕ} → Filling bs old at out next i → length bs ≤ i → Put at (fitting at bs old) old next out
+  fill-ends {out} {next} {i} f h =
+      subst (λ l. Put at l old next out) (take-all i bs h ∙ sym (take-all (length old - at) bs (omega (arith, f .room, h)))) (f .put)
 
 -- The room that is left behind what was put.
 pub put-room : {at r : ℕ} {ys old new : List ℕ} → Put at ys old r new → (k : ℕ) → at + length ys + k ≤ length old → r + k ≤ length new

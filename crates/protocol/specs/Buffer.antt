@@ -1,5 +1,5 @@
 -- Lent buffers: what a call that writes leaves in one.
-use Prim.Native.Nat.{ℕ, _+_}
+use Prim.Native.Nat.{ℕ, _+_, _-_}
 use mathlib.Core.Path.{_≡_}
 use mathlib.Core.List.{List, _++_}
 use lib.ListN.{length, take, drop}
@@ -12,6 +12,10 @@ putAt at ys xs = take at xs ++ (ys ++ drop (at + length ys) xs)
 -- 01, Numbers returned: what is written stands at the front, and the output beyond it stays as lent.
 unfoldable pub over : List ℕ → List ℕ → List ℕ
 over ys xs = ys ++ drop (length ys) xs
+
+-- As many of some bytes as there is room for, from a place of a buffer on.
+abbrev pub fitting : ℕ → List ℕ → List ℕ → List ℕ
+fitting at ys xs = take (length xs - at) ys
 
 -- What a helper that writes at a place returns and leaves: the place after its bytes, and the buffer with them.
 pub record Put (at : ℕ) (ys old : List ℕ) (r : ℕ) (new : List ℕ) : Type 0 where

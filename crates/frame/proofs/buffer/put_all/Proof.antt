@@ -1,52 +1,60 @@
 -- `frame::buffer::put_all` meets its contract. Assumes nothing.
 use Prim.Native.Nat.{_-_}
 use native.Mathlib.Omega.{arith}
-use mathlib.Core.Path.{_≡_}
 use lib.ListN.{length}
-use Rattle.frame.proofs.UdpLaws.{Filling, fill-begins, fill-more, fill-same, fill-ends}
+use Rattle.protocol.proofs.BufferLaws.{Filling, fill-begins, fill-more, fill-full, fill-ends}
 use Rattle.frame.proofs.buffer.put_all.Statement.{statement}
 use Rattle.frame.proofs.buffer.put_all.Tie as tie
 
 abbrev Inv-loop : tie.InvT-loop
-Inv-loop payload out₀ i₀ out i = Filling payload out₀ out i
+Inv-loop bs out₀ at next₀ i₀ out next i = Filling bs out₀ at out next i
 
 abbrev μ-loop : tie.MeasureT-loop
-μ-loop payload out₀ i₀ out i = length payload - i
-
--- The output keeps its length.
-same-at : (c : tie.At-loop Inv-loop μ-loop) → length (c .loop .out) ≡ length (c .before .before .before .args .out .now)
-same-at c =
-    let start = c .before .before .before in
-    fill-same (start .args .payload .now) (start .args .out .now) (start .pre) (c .loop .inv)
+μ-loop bs out₀ at next₀ i₀ out next i = length bs - i
 
 loop-holds : tie.Need-loop-holds Inv-loop μ-loop
-loop-holds c = fill-begins (c .before .before .args .payload .now) (c .before .before .args .out .now) (c .before .before .pre)
+loop-holds c =
+    let start = c .before .before in
+    fill-begins (start .args .bs .now) (start .args .out .now) (start .args .at)
+
+same-length : tie.Need-same-length Inv-loop μ-loop
+same-length c = c .before .before .loop .inv .same
+
+returns : tie.Need-returns Inv-loop μ-loop
+returns c =
+    let at-loop = c .before .before in
+    let start = at-loop .before .before .before in
+    fill-full (start .args .bs .now) (start .args .out .now) (start .args .at) (at-loop .loop .inv)
+    (omega (arith, at-loop .loop .inv .same, c .if1 .taken))
 
 shared-slice-read-put : tie.Need-shared-slice-read-put Inv-loop μ-loop
 shared-slice-read-put c = omega arith
 
 put-requires : tie.Need-put-requires Inv-loop μ-loop
-put-requires c κs =
-    let at-loop = c .before .before .before in
-    omega (arith, same-at at-loop, at-loop .before .before .before .pre, c .before .before .loop-test .taken)
+put-requires c κs = omega arith
+
+add-i : tie.Need-add-i Inv-loop μ-loop
+add-i c = omega arith
 
 loop-less : tie.Need-loop-less Inv-loop μ-loop
-loop-less c = omega (arith, c .before .before .put .ensures .next, c .before .before .before .before .before .loop-test .taken)
+loop-less c = omega arith
 
 loop-again : tie.Need-loop-again Inv-loop μ-loop
 loop-again c =
-    let in-loop = c .before .before .before .before .before in
+    let put = c .before .before in
+    let else1 = put .before .before .before in
+    let in-loop = else1 .before in
     let start = in-loop .before .before .before .before in
-    fill-more (start .args .payload .now) (start .args .out .now) (start .pre)
-    (in-loop .before .loop .inv) (in-loop .loop-test .taken) (c .before .before .put .ensures)
+    fill-more (start .args .bs .now) (start .args .out .now) (start .args .at) (in-loop .before .loop .inv) (in-loop .loop-test .taken)
+    (else1 .if1 .left) (put .put .ensures)
 
-same-length : tie.Need-same-length Inv-loop μ-loop
-same-length c = same-at (c .before)
+same-length-2 : tie.Need-same-length-2 Inv-loop μ-loop
+same-length-2 c = c .before .loop .inv .same
 
-returns : tie.Need-returns Inv-loop μ-loop
-returns c =
+returns-2 : tie.Need-returns-2 Inv-loop μ-loop
+returns-2 c =
     let start = c .before .before .before .before in
-    fill-ends (start .args .payload .now) (start .args .out .now) (start .pre) (c .before .loop .inv) (c .loop-test .left)
+    fill-ends (start .args .bs .now) (start .args .out .now) (start .args .at) (c .before .loop .inv) (c .loop-test .left)
 
 pub put-all-spec : {M : Type 1} → statement M
 put-all-spec =
@@ -55,9 +63,12 @@ put-all-spec =
     Inv-loop
     μ-loop
     loop-holds
+    same-length
+    returns
     shared-slice-read-put
     put-requires
+    add-i
     loop-less
     loop-again
-    same-length
-    returns)
+    same-length-2
+    returns-2)

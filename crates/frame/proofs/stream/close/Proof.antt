@@ -1,8 +1,9 @@
 -- `frame::stream::close` meets its contract. Assumes nothing.
-use Prim.Native.Nat.{_+_, _-_}
+use Prim.Native.Nat.{_+_, _-_, _≤_}
 use native.Mathlib.Omega.{arith}
 use borrow.Author.Needs.{needs}
-use lib.ListN.{drop, length-take}
+use lib.ListN.{length, take, drop, length-take}
+use Rattle.protocol.proofs.BufferLaws.{put-fits}
 use Rattle.frame.proofs.CloseLaws.{Data, close-refused, close-data, close-emits}
 use Rattle.frame.proofs.stream.close.Statement.{statement}
 use Rattle.frame.proofs.stream.close.Tie as tie
@@ -20,6 +21,23 @@ good c =
     let start = known .before in
     close-data (start .args .address) (start .args .content .now) (judged .before .tally-of .ensures) (judged .judge .ensures)
     (λ i. omega (arith, known .shared-slice-known .given i)) (start .pre .0) (c .if1 .left)
+
+-- Its data fits the output.
+room : (c : tie.Else1)
+    → let judged = c .before in
+    let start = judged .before .before .before .before in
+    0 + length (take (judged .judge .result .len + 1 - 1) (drop 1 (start .args .content .now))) ≤ length (start .args .out .now)
+room c =
+    let judged = c .before in
+    let start = judged .before .before .before .before in
+    omega (
+      arith,
+      length-take (judged .judge .result .len + 1 - 1) (drop 1 (start .args .content .now)),
+      good c .len,
+      good c .long,
+      start .pre .0,
+      start .pre .1,
+    )
 
 tally-of-requires : tie.Need-tally-of-requires
 tally-of-requires c κs = search needs
@@ -48,18 +66,7 @@ part-put-all-end : tie.Need-part-put-all-end
 part-put-all-end c = omega (arith, good (c .before) .len, good (c .before) .long)
 
 put-all-requires : tie.Need-put-all-requires
-put-all-requires c κs =
-    let else1 = c .before .before .before in
-    let judged = else1 .before in
-    let start = judged .before .before .before .before in
-    omega (
-      arith,
-      length-take (judged .judge .result .len + 1 - 1) (drop 1 (start .args .content .now)),
-      good else1 .len,
-      good else1 .long,
-      start .pre .0,
-      start .pre .1,
-    )
+put-all-requires c κs = search needs
 
 same-length : tie.Need-same-length
 same-length c = search needs
@@ -72,7 +79,7 @@ returns-2 c =
     let start = known .before in
     close-emits (start .args .address) (start .args .content .now) (judged .before .tally-of .ensures) (judged .judge .ensures)
     (λ i. omega (arith, known .shared-slice-known .given i)) (start .pre .0)
-    (good else1) (c .before .before .put-all .ensures)
+    (good else1) (put-fits (room else1) (c .before .before .put-all .ensures))
 
 pub close-spec : {M : Type 1} → statement M
 close-spec =
