@@ -3,24 +3,23 @@
 use Prim.Native.Nat.{ℕ, zero, suc, _+_, _*_, _/_, _%_, _^_, _<_, _≤_}
 use native.Mathlib.Omega.{arith}
 use native.Mathlib.Nat.{not-suc-le-zero, zero-add, add-zero, add-assoc}
-use native.Mathlib.Numerals.{add-one}
 use native.Mathlib.Decide.{decLt}
 use mathlib.Core.Path.{_≡_, refl, sym, ap, ap₂, subst, _∙_}
 use mathlib.Core.Bool.{Bool, true, false, cond, _&&_, false≢true}
 use mathlib.Core.List.{List, [], _∷_, _++_, append-assoc}
-use mathlib.Core.Option.{Option, none, some, Option·none-ne-some, Option·some-injective}
-use borrow.Author.Tests.{ltb-true, eqb-true, lt-ltb, le-ltb, eq-eqb, ne-eqb}
+use mathlib.Core.Option.{none, some, Option·none-ne-some, Option·some-injective}
+use borrow.Author.Tests.{ltb-true, lt-ltb, le-ltb}
 use borrow.Author.Count.{below-more}
-use lib.ListN.{length, getD, take, drop, set, length-append, length-drop, length-set, List·getD-eq-default}
+use lib.ListN.{length, getD, take, drop, set, length-drop, length-set, List·getD-eq-default}
 use lib.Seq.{getD-drop, getD-append-add, take-append-add, drop-append-add, set-out, set-set, getD-set-same, sets-eq}
 use lib.Dec.{eqb, ltb}
-use Rattle.protocol.specs.Numbers.{byteEnd, wordEnd, done, unsound, notLive}
+use Rattle.protocol.specs.Numbers.{wordEnd, done, unsound, notLive}
 use Rattle.protocol.specs.Bytes.{Bytes, every, word, number, numberAfter}
 use Rattle.protocol.specs.Buffer.{putAt}
 use Rattle.protocol.specs.Tree.{Property, Tree, Cell, cellIn, cellsSound, isLive, propertyIn, posted, post}
 use Rattle.protocol.proofs.TestLaws.{and-left, and-right, and-both}
 use Rattle.protocol.proofs.ListLaws.{number-word, word-number, bytes-cons, bytes-drop}
-use Rattle.protocol.proofs.BufferLaws.{set-put, length-put, put-put}
+use Rattle.protocol.proofs.BufferLaws.{set-put, length-put}
 use Rattle.tree.specs.Seen.{wordAt, recordsFrom, same, seen, isTree}
 use Rattle.tree.specs.Cells.{cellSize, markOf, cellForm, cellsForm, cellSeen, cellsIn, hasCells, cellsOf, withWord, withMark}
 use Rattle.tree.specs.Lent.{isLent, lentNumber, postIn, Posts}
@@ -175,8 +174,8 @@ all-seen (suc n) bs all h marks =
     ap (λ l. cellForm (cellSeen bs) ++ l)
     (all-seen n (drop cellSize bs) (λ _. bytes-drop cellSize bs (all (omega (arith, h)))) (omega (arith, h, length-drop cellSize bs))
     (λ k q.
-      let i : suc k * cellSize + 4 ≡ cellSize + (k * cellSize + 4) = omega arith in
-      subst (λ m. m ≤ 1) (ap (λ j. getD bs j 0) i ∙ sym (getD-drop cellSize bs (k * cellSize + 4) 0)) (marks (suc k) (omega (arith, q)))))
+    let i : suc k * cellSize + 4 ≡ cellSize + (k * cellSize + 4) = omega arith in
+    subst (λ m. m ≤ 1) (ap (λ j. getD bs j 0) i ∙ sym (getD-drop cellSize bs (k * cellSize + 4) 0)) (marks (suc k) (omega (arith, q)))))
     ∙ cell-seen bs (all (omega (arith, h))) (omega (arith, h)) (marks 0 (omega arith))
 
 -- The marks up to a place looked at. (Once one was read, all are known to be bytes.)
@@ -216,9 +215,9 @@ module _ (bs : List ℕ) where
   pub not-marked : (k : ℕ) → 1 < getD bs (k * cellSize + 4) 0 → false ≡ hasCells bs
   not-marked k h =
       refuted (λ e.
-        let is : getD bs (k * cellSize + 4) 0 ≡ getD (cellsForm (cellsIn bs)) (k * cellSize + 4) 0 =
-        ap (λ l. getD l (k * cellSize + 4) 0) (form-of bs e) in
-        omega (arith, h, is, mark-at (cellsIn bs) k))
+      let is : getD bs (k * cellSize + 4) 0 ≡ getD (cellsForm (cellsIn bs)) (k * cellSize + 4) 0 =
+      ap (λ l. getD l (k * cellSize + 4) 0) (form-of bs e) in
+      omega (arith, h, is, mark-at (cellsIn bs) k))
 
 -- A cell read by its place; a place past the end has the cell of zeros.
 pub cell-at : (bs : List ℕ) (k : ℕ) → k < length bs / cellSize → cellIn (cellsIn bs) k ≡ cellSeen (drop (k * cellSize) bs)
@@ -269,7 +268,7 @@ module _ (offset : ℕ) (bytes : List ℕ) (change : Cell → Cell)
 
   store-cell : (cs : List Cell) (k : ℕ)
       → cond (ltb k (length (cellsForm cs) / cellSize)) (putAt (k * cellSize + offset) bytes (cellsForm cs)) (cellsForm cs)
-        ≡ cellsForm (set cs k (change (cellIn cs k)))
+      ≡ cellsForm (set cs k (change (cellIn cs k)))
   store-cell cs k = go (decLt k (length cs))
     where
       n : length (cellsForm cs) / cellSize ≡ length cs
@@ -277,7 +276,7 @@ module _ (offset : ℕ) (bytes : List ℕ) (change : Cell → Cell)
 
       go : Dec (k < length cs)
           → cond (ltb k (length (cellsForm cs) / cellSize)) (putAt (k * cellSize + offset) bytes (cellsForm cs)) (cellsForm cs)
-            ≡ cellsForm (set cs k (change (cellIn cs k)))
+          ≡ cellsForm (set cs k (change (cellIn cs k)))
       go (yes h) = rw (n, lt-ltb k (length cs) h) (put-cell cs k h)
       go (no h) =
           rw (n, le-ltb k (length cs) (omega (arith, h)))
@@ -323,10 +322,22 @@ twice cs k x g = go (decLt k (length cs))
         ∙ set-out cs k x short
         ∙ sym (set-out cs k (g x) short)
 
--- What a posting stores: the word where it is ready, and the mark.
+-- What a posting stores: the word, where it is ready, and then the mark.
+pub worded : List ℕ → ℕ → ℕ → Bool → List ℕ
+worded bs k w ready = cond ready (withWord k w bs) bs
+
+module _ (bs : List ℕ) (k w : ℕ) (ready : Bool) {mid : List ℕ} where
+  pub word-first : ready ≡ true → mid ≡ withWord k w bs → mid ≡ worded bs k w ready
+  unfolding worded
+  word-first e h = rw e h
+
+  pub no-word : ready ≡ false → mid ≡ bs → mid ≡ worded bs k w ready
+  unfolding worded
+  no-word e h = rw e h
+
 stored : (cs : List Cell) (k w : ℕ) (ready : Bool)
-    → withMark k ready (cond ready (withWord k w (cellsForm cs)) (cellsForm cs))
-      ≡ cellsForm (set cs k (posted (cellIn cs k) w ready))
+    → withMark k ready (worded (cellsForm cs) k w ready) ≡ cellsForm (set cs k (posted (cellIn cs k) w ready))
+unfolding worded
 stored cs k w true =
     ap (withMark k true) (word-stored cs k w)
     ∙ mark-stored (set cs k (withNumber w (cellIn cs k))) k true
@@ -342,6 +353,34 @@ pub mark-kept : (bs : List ℕ) (k : ℕ) (t : Bool) → length bs / cellSize �
 unfolding withMark
 mark-kept bs k t h = rw (le-ltb k (length bs / cellSize) h)
 
+-- Neither changes how many bytes there are.
+size-kept : (bs ys : List ℕ) (k offset : ℕ) → offset + length ys ≤ cellSize
+    → length (cond (ltb k (length bs / cellSize)) (putAt (k * cellSize + offset) ys bs) bs) ≡ length bs
+size-kept bs ys k offset fits = go (ltb k (length bs / cellSize)) refl
+  where
+    go : (t : Bool) → ltb k (length bs / cellSize) ≡ t → length (cond t (putAt (k * cellSize + offset) ys bs) bs) ≡ length bs
+    go true e = length-put bs (k * cellSize + offset) ys (omega (arith, fits, ltb-true k (length bs / cellSize) e))
+    go false e = refl
+
+word-size : (bs : List ℕ) (k w : ℕ) → length (withWord k w bs) ≡ length bs
+unfolding withWord word
+word-size bs k w =
+    ap (λ n. length (cond (ltb k (length bs / cellSize)) (putAt n (word w) bs) bs)) (sym (add-zero (k * cellSize)))
+    ∙ size-kept bs (word w) k 0 (omega arith)
+
+mark-size : (bs : List ℕ) (k : ℕ) (t : Bool) → length (withMark k t bs) ≡ length bs
+unfolding withMark
+mark-size bs k t = size-kept bs (markOf t ∷ []) k 4 (omega arith)
+
+pub posted-size : (bs : List ℕ) (k w : ℕ) (ready : Bool) {mid new : List ℕ} → mid ≡ worded bs k w ready → new ≡ withMark k ready mid
+    → length new ≡ length bs
+unfolding worded
+posted-size bs k w ready {mid} e f = ap length f ∙ mark-size mid k ready ∙ ap length e ∙ go ready
+  where
+    go : (t : Bool) → length (cond t (withWord k w bs) bs) ≡ length bs
+    go true = word-size bs k w
+    go false = refl
+
 four-set : (bs : List ℕ) (at a b c d : ℕ) → at + 4 ≤ length bs
     → set (set (set (set bs at a) (at + 1) b) (at + 2) c) (at + 3) d ≡ putAt at (a ∷ b ∷ c ∷ d ∷ []) bs
 unfolding putAt
@@ -354,7 +393,7 @@ four-set bs at a b c d h =
 
 pub word-set : (bs : List ℕ) (k w : ℕ) → k < length bs / cellSize
     → set (set (set (set bs (k * cellSize) (w / 2 ^ 24 % 2 ^ 8)) (k * cellSize + 1) (w / 2 ^ 16 % 2 ^ 8)) (k * cellSize + 2) (w / 2 ^ 8 % 2 ^ 8)) (k * cellSize + 3) (w % 2 ^ 8)
-      ≡ withWord k w bs
+    ≡ withWord k w bs
 unfolding withWord word
 word-set bs k w h =
     rw (lt-ltb k (length bs / cellSize) h)
@@ -384,6 +423,22 @@ module _ (t : Tree) (cs : List Cell) (k w : ℕ) (ready : Bool) where
   unfolding post
   post-other h = rw (h, and-false (ltb k (length (t .properties))))
 
+-- Lent bytes that passed the check.
+module _ (tree cells : List ℕ) where
+  pub lent-by : {n : ℕ} → n ≡ lentNumber tree cells → n ≡ done → isLent tree cells ≡ true
+  unfolding lentNumber
+  lent-by {n} e h = go (isLent tree cells) refl
+    where
+      go : (t : Bool) → isLent tree cells ≡ t → isLent tree cells ≡ true
+      go true q = q
+      go false q = absurd (omega (arith, sym h ∙ e, ap (λ t. cond t done unsound) q))
+
+  pub lent-form : isLent tree cells ≡ true → cells ≡ cellsForm (cellsIn cells)
+  unfolding isLent
+  lent-form e =
+      let rest = and-right (isTree tree) _ e in
+      form-of cells (and-left (hasCells cells) _ rest)
+
 module _ (tree cells : List ℕ) (k w : ℕ) (ready : Bool) where
   pub posts-unsound : {n : ℕ} → n ≡ lentNumber tree cells → (n ≡ done → ⊥) → Posts (postIn tree cells k w ready) unsound cells
   unfolding lentNumber postIn
@@ -393,36 +448,23 @@ module _ (tree cells : List ℕ) (k w : ℕ) (ready : Bool) where
       go true q = absurd (h (e ∙ rw q))
       go false q = rw q (record { number = refl; bytes = refl })
 
-  pub lent-by : {n : ℕ} → n ≡ lentNumber tree cells → n ≡ done → isLent tree cells ≡ true
-  unfolding lentNumber
-  lent-by {n} e h = go (isLent tree cells) refl
-    where
-      go : (t : Bool) → isLent tree cells ≡ t → isLent tree cells ≡ true
-      go true q = q
-      go false q = absurd (omega (arith, sym h ∙ e ∙ rw q))
-
-  lent-form : isLent tree cells ≡ true → cells ≡ cellsForm (cellsIn cells)
-  unfolding isLent
-  lent-form e =
-      let rest = and-right (isTree tree) _ e in
-      form-of cells (and-left (hasCells cells) _ rest)
-
   pub posts-other : isLent tree cells ≡ true → isLive (propertyIn (seen tree) k) ≡ false → Posts (postIn tree cells k w ready) notLive cells
   unfolding postIn
   posts-other e h =
       let is = post-other (seen tree) (cellsIn cells) k w ready h in
-      rw e (record { number = sym (ap (λ p. p .number) is); bytes = lent-form e ∙ ap (λ p. cellsForm (p .cells)) (sym is) })
+      rw e (record { number = sym (ap (λ p. p .number) is); bytes = lent-form tree cells e ∙ ap (λ p. cellsForm (p .cells)) (sym is) })
 
-  pub posts-live : isLent tree cells ≡ true → isLive (propertyIn (seen tree) k) ≡ true
-      → Posts (postIn tree cells k w ready) done (withMark k ready (cond ready (withWord k w cells) cells))
+  pub posts-live : {mid new : List ℕ} → isLent tree cells ≡ true → isLive (propertyIn (seen tree) k) ≡ true
+      → mid ≡ worded cells k w ready → new ≡ withMark k ready mid → Posts (postIn tree cells k w ready) done new
   unfolding postIn
-  posts-live e h =
+  posts-live e h f g =
       let is = post-live (seen tree) (cellsIn cells) k w ready h in
       rw e
       (record {
         number = sym (ap (λ p. p .number) is);
         bytes =
-            ap (λ l. withMark k ready (cond ready (withWord k w l) l)) (lent-form e)
+            g
+            ∙ ap (withMark k ready) (f ∙ ap (λ l. worded l k w ready) (lent-form tree cells e))
             ∙ stored (cellsIn cells) k w ready
             ∙ ap (λ p. cellsForm (p .cells)) (sym is);
       })

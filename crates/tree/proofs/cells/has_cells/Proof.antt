@@ -4,8 +4,6 @@ use native.Mathlib.Omega.{arith}
 use Rattle.tree.proofs.CellLaws.{Checking, check-begins, check-more, check-ends, not-whole, not-marked}
 use Rattle.tree.proofs.cells.has_cells.Statement.{statement}
 use Rattle.tree.proofs.cells.has_cells.Tie as tie
-use Rattle.tree.proofs.cells.has_cells.Reads as reads
-use Rattle.tree.proofs.cells.has_cells.Lts as lts
 
 abbrev Inv-loop : tie.InvT-loop
 Inv-loop cells count k₀ k = Checking cells k

@@ -4,8 +4,6 @@ use borrow.Author.Needs.{needs}
 use Rattle.tree.proofs.CellLaws.{mark-kept, mark-set}
 use Rattle.tree.proofs.cells.store_mark.Statement.{statement}
 use Rattle.tree.proofs.cells.store_mark.Tie as tie
-use Rattle.tree.proofs.cells.store_mark.Reads as reads
-use Rattle.tree.proofs.cells.store_mark.Lts as lts
 
 returns : tie.Need-returns
 returns c =

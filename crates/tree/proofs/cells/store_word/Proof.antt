@@ -5,8 +5,6 @@ use lib.ListN.{length-set}
 use Rattle.tree.proofs.CellLaws.{word-kept, word-set}
 use Rattle.tree.proofs.cells.store_word.Statement.{statement}
 use Rattle.tree.proofs.cells.store_word.Tie as tie
-use Rattle.tree.proofs.cells.store_word.Reads as reads
-use Rattle.tree.proofs.cells.store_word.Lts as lts
 
 returns : tie.Need-returns
 returns c =
