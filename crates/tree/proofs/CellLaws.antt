@@ -5,7 +5,7 @@ use native.Mathlib.Omega.{arith}
 use native.Mathlib.Nat.{not-suc-le-zero, zero-add, add-zero, add-assoc}
 use native.Mathlib.Decide.{decLt}
 use mathlib.Core.Path.{_≡_, refl, sym, ap, ap₂, subst, _∙_}
-use mathlib.Core.Bool.{Bool, true, false, cond, _&&_, false≢true}
+use mathlib.Core.Bool.{Bool, true, false, cond, false≢true, and-false}
 use mathlib.Core.List.{List, [], _∷_, _++_, append-assoc}
 use mathlib.Core.Option.{none, some, Option·none-ne-some, Option·some-injective}
 use borrow.Author.Tests.{ltb-true, lt-ltb, le-ltb}
@@ -408,10 +408,6 @@ live-within : (ps : List Property) (k : ℕ) → isLive (propertyIn (record { no
 live-within [] k h = absurd (false≢true h)
 live-within (p ∷ ps) zero h = omega arith
 live-within (p ∷ ps) (suc k) h = omega (arith, live-within ps k h)
-
-and-false : (t : Bool) → (t && false) ≡ false
-and-false true = refl
-and-false false = refl
 
 module _ (t : Tree) (cs : List Cell) (k w : ℕ) (ready : Bool) where
   post-live : isLive (propertyIn t k) ≡ true
