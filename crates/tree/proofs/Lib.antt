@@ -10,3 +10,4 @@ pub mod DepthLaws
 pub mod FormLaws
 pub mod CheckLaws
 pub mod ByteLaws
+pub mod CellLaws

@@ -1,53 +1,53 @@
+-- `tree::cells::has_cells` meets its contract. Assumes nothing.
+use Prim.Native.Nat.{_-_}
+use native.Mathlib.Omega.{arith}
+use Rattle.tree.proofs.CellLaws.{Checking, check-begins, check-more, check-ends, not-whole, not-marked}
 use Rattle.tree.proofs.cells.has_cells.Statement.{statement}
 use Rattle.tree.proofs.cells.has_cells.Tie as tie
-use Rattle.tree.proofs.cells.has_cells.Reads as reads
-use Rattle.tree.proofs.cells.has_cells.Lts as lts
 
 abbrev Inv-loop : tie.InvT-loop
-Inv-loop cells count k₀ k = ?
+Inv-loop cells count k₀ k = Checking cells k
 
 abbrev μ-loop : tie.MeasureT-loop
-μ-loop cells count k₀ k = ?
+μ-loop cells count k₀ k = count - k
 
--- src/cells.rt:23:9
 returns : tie.Need-returns Inv-loop μ-loop
-returns c = ?
+returns c = not-whole (c .before .args .cells .now) (c .if1 .taken)
 
--- src/cells.rt:27:5
 loop-holds : tie.Need-loop-holds Inv-loop μ-loop
-loop-holds c = ?
+loop-holds c = check-begins (c .before .args .cells .now)
 
--- src/cells.rt:28:22
 mul-if2 : tie.Need-mul-if2 Inv-loop μ-loop
-mul-if2 c = ?
+mul-if2 c = omega arith
 
--- src/cells.rt:28:22
 add-if2 : tie.Need-add-if2 Inv-loop μ-loop
-add-if2 c = ?
+add-if2 c = omega arith
 
--- src/cells.rt:28:16
 shared-slice-read-if2 : tie.Need-shared-slice-read-if2 Inv-loop μ-loop
-shared-slice-read-if2 c = ?
+shared-slice-read-if2 c = omega arith
 
--- src/cells.rt:29:13
 returns-2 : tie.Need-returns-2 Inv-loop μ-loop
-returns-2 c = ?
+returns-2 c =
+    let at-loop = c .before .before .before in
+    not-marked (at-loop .before .before .args .cells .now) (at-loop .loop .k) (c .if2 .taken)
 
--- src/cells.rt:31:9
 add-k : tie.Need-add-k Inv-loop μ-loop
-add-k c = ?
+add-k c = omega arith
 
--- src/cells.rt:27:5
 loop-less : tie.Need-loop-less Inv-loop μ-loop
-loop-less c = ?
+loop-less c = omega arith
 
--- src/cells.rt:27:5
 loop-again : tie.Need-loop-again Inv-loop μ-loop
-loop-again c = ?
+loop-again c =
+    let in-loop = c .before .before in
+    let at-loop = in-loop .before in
+    check-more (at-loop .before .before .args .cells .now) (at-loop .loop .inv) (in-loop .loop-test .taken)
+    (λ i. omega (arith, c .before .shared-slice-known .given i)) (c .if2 .left)
 
--- src/cells.rt:19:1
 returns-3 : tie.Need-returns-3 Inv-loop μ-loop
-returns-3 c = ?
+returns-3 c =
+    let at-loop = c .before in
+    check-ends (at-loop .before .before .args .cells .now) (at-loop .loop .inv) (c .loop-test .left) (at-loop .before .if1 .left)
 
 pub has-cells-spec : {M : Type 1} → statement M
 has-cells-spec =

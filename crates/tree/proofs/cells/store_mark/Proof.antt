@@ -1,44 +1,42 @@
+-- `tree::cells::store_mark` meets its contract. Assumes nothing.
+use mathlib.Core.Bool.{true, false}
 use borrow.Author.Needs.{needs}
+use Rattle.tree.proofs.CellLaws.{mark-kept, mark-set}
 use Rattle.tree.proofs.cells.store_mark.Statement.{statement}
 use Rattle.tree.proofs.cells.store_mark.Tie as tie
-use Rattle.tree.proofs.cells.store_mark.Reads as reads
-use Rattle.tree.proofs.cells.store_mark.Lts as lts
 
--- src/cells.rt:82:9
 returns : tie.Need-returns
-returns c = ?
+returns c =
+    let start = c .before in
+    mark-kept (start .args .cells .now) (start .args .place) (start .args .ready) (c .if1 .taken)
 
--- src/cells.rt:84:14
 mul-at : tie.Need-mul-at
 mul-at c = search needs
 
--- src/cells.rt:84:14
 add-at : tie.Need-add-at
 add-at c = search needs
 
--- src/cells.rt:86:9
 slice-write-cells : tie.Need-slice-write-cells
 slice-write-cells c = search needs
 
--- src/cells.rt:88:9
 slice-write-cells-2 : tie.Need-slice-write-cells-2
 slice-write-cells-2 c = search needs
 
--- src/cells.rt:78:1
 same-length : tie.Need-same-length
 same-length c = search needs
 
--- src/cells.rt:78:1
 returns-2 : tie.Need-returns-2
-returns-2 c = ?
+returns-2 c =
+    let start = c .before .before in
+    rw (c .if2 .taken) (mark-set (start .args .cells .now) (start .args .place) true (c .before .if1 .left))
 
--- src/cells.rt:78:1
 same-length-2 : tie.Need-same-length-2
 same-length-2 c = search needs
 
--- src/cells.rt:78:1
 returns-3 : tie.Need-returns-3
-returns-3 c = ?
+returns-3 c =
+    let start = c .before .before in
+    rw (c .if2 .left) (mark-set (start .args .cells .now) (start .args .place) false (c .before .if1 .left))
 
 pub store-mark-spec : {M : Type 1} → statement M
 store-mark-spec =
