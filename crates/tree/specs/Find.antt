@@ -1,5 +1,5 @@
 -- Lookups: the records that name a node.
-use Prim.Native.Nat.{ℕ, _+_, _*_}
+use Prim.Native.Nat.{ℕ}
 use mathlib.Core.List.{List}
 use lib.ListN.{getD, drop}
 use lib.Dec.{eqb}
