@@ -49,15 +49,15 @@ pub property-near : (bs : List ℕ) (place : ℕ) {start : ℕ} → Bytes bs →
     → start + place * propertySize < 65536
 property-near bs place all h e = omega (arith, all 0, all 1, h, e)
 
--- What stands where there is nothing.
-abbrev none : Tree
-none = record { nodes = []; properties = [] }
+-- What stands where there is no such place.
+abbrev emptyTree : Tree
+emptyTree = record { nodes = []; properties = [] }
 
 abbrev noNode : Node
-noNode = nodeIn none 0
+noNode = nodeIn emptyTree 0
 
 abbrev noProperty : Property
-noProperty = propertyIn none 0
+noProperty = propertyIn emptyTree 0
 
 -- What stands at a place of a tree that is seen.
 module _ (bs : List ℕ) (place : ℕ) where

@@ -170,7 +170,7 @@ module _ (bs : List ℕ) (table : Table) (node : ℕ) where
 module _ {A : Type 0} (read : List ℕ → A) (f : A → Bool) (node : ℕ) (first : (r : List ℕ) → f (read r) ≡ eqb (getD r 0 0) node) where
   belongs : (bs : List ℕ) (table : Table)
       → placesFrom (table .first) f
-        (drop (table .first) (recordsFrom (table .size) read (table .end) (drop (table .start) bs)))
+      (drop (table .first) (recordsFrom (table .size) read (table .end) (drop (table .start) bs)))
       ≡ belonging bs table node
   unfolding belonging
   belongs bs table =

@@ -27,7 +27,7 @@ add-n c =
     omega (
       arith,
       count-fits (args .tree .now) (args .table) (args .node) (in-loop .before .before .loop .inv) (in-loop .if1 .taken)
-      (start .pre .1 .1) (c .names-node .ensures),
+          (start .pre .1 .1) (c .names-node .ensures),
     )
 
 add-k : tie.Need-add-k Inv-loop μ-loop
