@@ -11,3 +11,5 @@ pub mod FormLaws
 pub mod CheckLaws
 pub mod ByteLaws
 pub mod CellLaws
+pub mod FindLaws
+pub mod FieldLaws

@@ -7,13 +7,13 @@ use super::record;
 use protocol::NodeNumber;
 use protocol::PropertyIndex;
 ghost use mathlib.Core.Path.{_≡_};
-ghost use Prim.Native.Nat.{_+_, _*_, _≤_, _<_};
+ghost use Prim.Native.Nat.{_+_, _*_, _<_};
 ghost use lib.ListN.{length, getD};
 ghost use mathlib.Core.Bool.{cond};
 ghost use lib.Dec.{eqb};
 ghost use Rattle.protocol.specs.Tree.{numbered, childrenOf, propertiesOf, childOf, propertyOf, nodeAt};
 ghost use Rattle.tree.specs.Seen.{seen};
-ghost use Rattle.tree.specs.Find.{belonging};
+ghost use Rattle.tree.specs.Find.{belonging, childrenTable, propertiesTable};
 ghost use Rattle.tree.specs.Lent.{foundOf};
 
 // Records of one size, and which of them are looked at: from one place in the list to an end.
@@ -25,7 +25,9 @@ pub(crate) struct Table {
 }
 
 // All nodes but the device, which is nobody's child.
-fn children_table(tree: &[u8]) -> Table {
+fn children_table(tree: &[u8]) -> Table
+    ensures { λ r. ⌜ r ≡ childrenTable (now (tree .entry)) ⌝ }
+{
     Table {
         start: 2,
         size: NODE_SIZE,
@@ -34,7 +36,9 @@ fn children_table(tree: &[u8]) -> Table {
     }
 }
 
-fn properties_table(tree: &[u8]) -> Table {
+fn properties_table(tree: &[u8]) -> Table
+    ensures { λ r. ⌜ r ≡ propertiesTable (now (tree .entry)) ⌝ }
+{
     Table {
         start: record::properties_start(tree),
         size: PROPERTY_SIZE,

@@ -5,7 +5,7 @@ use super::PROPERTY_SIZE;
 use super::bytes;
 use super::texts;
 ghost use mathlib.Core.Path.{_≡_};
-ghost use Prim.Native.Nat.{_+_, _-_, _≤_, _<_};
+ghost use Prim.Native.Nat.{_-_};
 ghost use lib.ListN.{length, getD, take};
 ghost use Rattle.protocol.specs.Numbers.{bitRead, bitWrite, bitLive, bitSigned};
 ghost use Rattle.protocol.specs.Bytes.{bit, text, ordered, atMost};

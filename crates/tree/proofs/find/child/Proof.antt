@@ -1,22 +1,26 @@
+-- `tree::find::child` meets its contract. Assumes nothing.
 use borrow.Author.Needs.{needs}
+use native.Mathlib.Omega.{arith}
+use mathlib.Core.Path.{ap, _∙_}
+use Rattle.protocol.specs.Tree.{numbered}
+use Rattle.tree.specs.Lent.{foundOf}
+use Rattle.tree.proofs.FindLaws.{children-in, children-small}
 use Rattle.tree.proofs.find.child.Statement.{statement}
 use Rattle.tree.proofs.find.child.Tie as tie
-use Rattle.tree.proofs.find.child.Reads as reads
-use Rattle.tree.proofs.find.child.Lts as lts
-use Rattle.tree.proofs.find.children_table.Reads as children-table-reads
-use Rattle.tree.proofs.find.numbered_in.Reads as numbered-in-reads
 
--- src/find.rt:96:23
 children-table-requires : tie.Need-children-table-requires
 children-table-requires c κs = search needs
 
--- src/find.rt:96:5
 numbered-in-requires : tie.Need-numbered-in-requires
-numbered-in-requires c κs = ?
+numbered-in-requires c κs =
+    children-small (c .before .before .args .tree .now) (λ i. omega (arith, c .before .shared-slice-known .given i))
+    (c .children-table .ensures)
 
--- src/find.rt:93:1
 returns : tie.Need-returns
-returns c = ?
+returns c =
+    let args = c .before .before .before .args in
+    c .numbered-in .ensures
+    ∙ ap (λ xs. foundOf (numbered xs (args .n .0))) (children-in (args .tree .now) (args .node) (c .before .children-table .ensures))
 
 pub child-spec : {M : Type 1} → statement M
 child-spec = tie.close (tie.spec children-table-requires numbered-in-requires returns)

@@ -1,22 +1,25 @@
+-- `tree::find::children` meets its contract. Assumes nothing.
 use borrow.Author.Needs.{needs}
+use native.Mathlib.Omega.{arith}
+use mathlib.Core.Path.{ap, _∙_}
+use lib.ListN.{length}
+use Rattle.tree.proofs.FindLaws.{children-in, children-small}
 use Rattle.tree.proofs.find.children.Statement.{statement}
 use Rattle.tree.proofs.find.children.Tie as tie
-use Rattle.tree.proofs.find.children.Reads as reads
-use Rattle.tree.proofs.find.children.Lts as lts
-use Rattle.tree.proofs.find.children_table.Reads as children-table-reads
-use Rattle.tree.proofs.find.count_in.Reads as count-in-reads
 
--- src/find.rt:110:20
 children-table-requires : tie.Need-children-table-requires
 children-table-requires c κs = search needs
 
--- src/find.rt:110:5
 count-in-requires : tie.Need-count-in-requires
-count-in-requires c κs = ?
+count-in-requires c κs =
+    children-small (c .before .before .args .tree .now) (λ i. omega (arith, c .before .shared-slice-known .given i))
+    (c .children-table .ensures)
 
--- src/find.rt:107:1
 returns : tie.Need-returns
-returns c = ?
+returns c =
+    let args = c .before .before .before .args in
+    c .count-in .ensures
+    ∙ ap length (children-in (args .tree .now) (args .node) (c .before .children-table .ensures))
 
 pub children-spec : {M : Type 1} → statement M
 children-spec = tie.close (tie.spec children-table-requires count-in-requires returns)

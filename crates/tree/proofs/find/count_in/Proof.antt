@@ -1,42 +1,52 @@
+-- `tree::find::count_in` meets its contract. Assumes nothing.
+use Prim.Native.Nat.{_-_}
+use native.Mathlib.Omega.{arith}
+use Rattle.tree.proofs.FindLaws.{Counting, count-begins, count-fits, count-more, count-ends}
 use Rattle.tree.proofs.find.count_in.Statement.{statement}
 use Rattle.tree.proofs.find.count_in.Tie as tie
-use Rattle.tree.proofs.find.count_in.Reads as reads
-use Rattle.tree.proofs.find.count_in.Lts as lts
-use Rattle.tree.proofs.find.names_node.Reads as names-node-reads
 
 abbrev Inv-loop : tie.InvT-loop
-Inv-loop tree table node n₀ k₀ n k = ?
+Inv-loop tree table node n₀ k₀ n k = Counting tree table node n k
 
 abbrev μ-loop : tie.MeasureT-loop
-μ-loop tree table node n₀ k₀ n k = ?
+μ-loop tree table node n₀ k₀ n k = table .end - k
 
--- src/find.rt:85:5
 loop-holds : tie.Need-loop-holds Inv-loop μ-loop
-loop-holds c = ?
+loop-holds c =
+    let args = c .before .args in
+    count-begins (args .tree .now) (args .table) (args .node)
 
--- src/find.rt:86:14
 names-node-requires : tie.Need-names-node-requires Inv-loop μ-loop
-names-node-requires c κs = ?
+names-node-requires c κs = (omega arith, (omega arith, omega arith))
 
--- src/find.rt:86:9
 add-n : tie.Need-add-n Inv-loop μ-loop
-add-n c = ?
+add-n c =
+    let in-loop = c .before in
+    let start = in-loop .before .before .before .before in
+    let args = start .args in
+    omega (
+      arith,
+      count-fits (args .tree .now) (args .table) (args .node) (in-loop .before .before .loop .inv) (in-loop .if1 .taken)
+          (start .pre .1 .1) (c .names-node .ensures),
+    )
 
--- src/find.rt:87:9
 add-k : tie.Need-add-k Inv-loop μ-loop
-add-k c = ?
+add-k c = omega arith
 
--- src/find.rt:85:5
 loop-less : tie.Need-loop-less Inv-loop μ-loop
-loop-less c = ?
+loop-less c = omega arith
 
--- src/find.rt:85:5
 loop-again : tie.Need-loop-again Inv-loop μ-loop
-loop-again c = ?
+loop-again c =
+    let in-loop = c .before in
+    let args = in-loop .before .before .before .before .args in
+    count-more (args .tree .now) (args .table) (args .node) (in-loop .before .before .loop .inv) (in-loop .if1 .taken)
+    (c .names-node .ensures)
 
--- src/find.rt:79:1
 returns : tie.Need-returns Inv-loop μ-loop
-returns c = ?
+returns c =
+    let args = c .before .before .before .before .args in
+    count-ends (args .tree .now) (args .table) (args .node) (c .before .before .loop .inv) (c .if1 .left)
 
 pub count-in-spec : {M : Type 1} → statement M
 count-in-spec =

@@ -1,66 +1,83 @@
+-- `tree::find::node` meets its contract. Assumes nothing.
+use Prim.Native.Nat.{_-_}
+use borrow.Author.Needs.{needs}
+use native.Mathlib.Omega.{arith}
+use mathlib.Core.Path.{ap, sym, _∙_}
+use lib.ListN.{length, getD}
+use Rattle.protocol.specs.Tree.{childOf}
+use Rattle.tree.specs.Seen.{seen}
+use Rattle.tree.specs.Lent.{foundOf}
+use Rattle.tree.proofs.FindLaws.{found-some, found-none, Walking, walk-empty, walk-other, walk-begins, walk-lost, walk-more, walk-ends}
 use Rattle.tree.proofs.find.node.Statement.{statement}
 use Rattle.tree.proofs.find.node.Tie as tie
-use Rattle.tree.proofs.find.node.Reads as reads
-use Rattle.tree.proofs.find.node.Lts as lts
-use Rattle.tree.proofs.find.child.Reads as child-reads
 
 abbrev Inv-loop : tie.InvT-loop
-Inv-loop tree path place₀ i₀ place i = ?
+Inv-loop tree path place₀ i₀ place i = Walking (seen tree) path place i
 
 abbrev μ-loop : tie.MeasureT-loop
-μ-loop tree path place₀ i₀ place i = ?
+μ-loop tree path place₀ i₀ place i = length path - i
 
--- src/find.rt:124:9
 returns : tie.Need-returns Inv-loop μ-loop
-returns c = ?
+returns c =
+    let args = c .before .before .before .args in
+    sym (ap foundOf (walk-empty (seen (args .tree .now)) (args .path .now) (c .if1 .taken)))
 
--- src/find.rt:126:8
 shared-slice-read-if2 : tie.Need-shared-slice-read-if2 Inv-loop μ-loop
-shared-slice-read-if2 c = ?
+shared-slice-read-if2 c = omega arith
 
--- src/find.rt:127:9
 returns-2 : tie.Need-returns-2 Inv-loop μ-loop
-returns-2 c = ?
+returns-2 c =
+    let args = c .before .before .before .before .before .args in
+    sym (ap foundOf (walk-other (seen (args .tree .now)) (args .path .now) (c .if2 .taken)))
 
--- src/find.rt:131:5
 loop-holds : tie.Need-loop-holds Inv-loop μ-loop
-loop-holds c = ?
+loop-holds c =
+    let args = c .before .before .before .before .before .args in
+    walk-begins (seen (args .tree .now)) (args .path .now) (c .if2 .left)
 
--- src/find.rt:132:61
 shared-slice-read-t14 : tie.Need-shared-slice-read-t14 Inv-loop μ-loop
-shared-slice-read-t14 c = ?
+shared-slice-read-t14 c = omega arith
 
--- src/find.rt:132:31
 child-requires : tie.Need-child-requires Inv-loop μ-loop
-child-requires c κs = ?
+child-requires c κs = search needs
 
--- src/find.rt:132:23
 enum-known-next : tie.Need-enum-known-next Inv-loop μ-loop
-enum-known-next c = ?
+enum-known-next c = search needs
 
--- src/find.rt:133:13
 enum-told : tie.Need-enum-told Inv-loop μ-loop
-enum-told c = ?
+enum-told c = search needs
 
--- src/find.rt:133:13
 returns-3 : tie.Need-returns-3 Inv-loop μ-loop
-returns-3 c = ?
+returns-3 c =
+    let asked = c .before .before in
+    let in-loop = asked .before .before in
+    let args = in-loop .before .before .before .before .before .before .before .args in
+    let child = childOf (seen (args .tree .now)) (in-loop .before .loop .place) (record { 0 = getD (args .path .now) (in-loop .before .loop .i) 0 }) in
+    sym (ap foundOf
+    (walk-lost (seen (args .tree .now)) (args .path .now) (in-loop .before .loop .inv) (in-loop .loop-test .taken)
+    (found-none child (sym (c .enum-told .given .1) ∙ asked .child .ensures))))
 
--- src/find.rt:136:9
 add-i : tie.Need-add-i Inv-loop μ-loop
-add-i c = ?
+add-i c = omega arith
 
--- src/find.rt:131:5
 loop-less : tie.Need-loop-less Inv-loop μ-loop
-loop-less c = ?
+loop-less c = omega arith
 
--- src/find.rt:131:5
 loop-again : tie.Need-loop-again Inv-loop μ-loop
-loop-again c = ?
+loop-again c =
+    let told = c .before in
+    let asked = told .before .before in
+    let in-loop = asked .before .before in
+    let args = in-loop .before .before .before .before .before .before .before .args in
+    let child = childOf (seen (args .tree .now)) (in-loop .before .loop .place) (record { 0 = getD (args .path .now) (in-loop .before .loop .i) 0 }) in
+    walk-more (seen (args .tree .now)) (args .path .now) (in-loop .before .loop .inv) (in-loop .loop-test .taken)
+    (found-some child (sym (told .next .given .1) ∙ asked .child .ensures))
 
--- src/find.rt:120:1
 returns-4 : tie.Need-returns-4 Inv-loop μ-loop
-returns-4 c = ?
+returns-4 c =
+    let args = c .before .before .before .before .before .before .before .args in
+    sym (ap foundOf
+    (walk-ends (seen (args .tree .now)) (args .path .now) (c .before .loop .inv) (c .loop-test .left)))
 
 pub node-spec : {M : Type 1} → statement M
 node-spec =

@@ -1,50 +1,64 @@
+-- `tree::find::numbered_in` meets its contract. Assumes nothing.
+use Prim.Native.Nat.{_-_}
+use native.Mathlib.Omega.{arith}
+use mathlib.Core.Path.{ap, sym}
+use Rattle.tree.specs.Lent.{foundOf}
+use Rattle.tree.proofs.FindLaws.{Seeking, seek-none, seek-begins, seek-fits, seek-found, seek-more, seek-ends}
 use Rattle.tree.proofs.find.numbered_in.Statement.{statement}
 use Rattle.tree.proofs.find.numbered_in.Tie as tie
-use Rattle.tree.proofs.find.numbered_in.Reads as reads
-use Rattle.tree.proofs.find.numbered_in.Lts as lts
-use Rattle.tree.proofs.find.names_node.Reads as names-node-reads
 
 abbrev Inv-loop : tie.InvT-loop
-Inv-loop tree table node n left₀ k₀ left k = ?
+Inv-loop tree table node n left₀ k₀ left k = Seeking tree table node n left k
 
 abbrev μ-loop : tie.MeasureT-loop
-μ-loop tree table node n left₀ k₀ left k = ?
+μ-loop tree table node n left₀ k₀ left k = table .end - k
 
--- src/find.rt:63:9
 returns : tie.Need-returns Inv-loop μ-loop
-returns c = ?
+returns c =
+    let args = c .before .before .args in
+    sym (ap foundOf (seek-none (args .tree .now) (args .table) (args .node) (args .n) (c .if1 .taken)))
 
--- src/find.rt:67:5
 loop-holds : tie.Need-loop-holds Inv-loop μ-loop
-loop-holds c = ?
+loop-holds c =
+    let args = c .before .before .args in
+    seek-begins (args .tree .now) (args .table) (args .node) (args .n) (c .if1 .left)
 
--- src/find.rt:68:13
 names-node-requires : tie.Need-names-node-requires Inv-loop μ-loop
-names-node-requires c κs = ?
+names-node-requires c κs = (omega arith, (omega arith, omega arith))
 
--- src/find.rt:70:13
 returns-2 : tie.Need-returns-2 Inv-loop μ-loop
-returns-2 c = ?
+returns-2 c =
+    let in-loop = c .before .before in
+    let args = in-loop .before .before .before .before .before .args in
+    sym (ap foundOf
+    (seek-found (args .tree .now) (args .table) (args .node) (args .n) (in-loop .before .before .loop .inv)
+    (in-loop .if2 .taken) (c .before .names-node .ensures) (c .if3 .taken)))
 
--- src/find.rt:72:9
 sub-left : tie.Need-sub-left Inv-loop μ-loop
-sub-left c = ?
+sub-left c =
+    let in-loop = c .before .before in
+    let args = in-loop .before .before .before .before .before .args in
+    seek-fits (args .tree .now) (args .table) (args .node) (args .n) (in-loop .before .before .loop .inv)
+    (c .before .names-node .ensures)
 
--- src/find.rt:73:9
 add-k : tie.Need-add-k Inv-loop μ-loop
-add-k c = ?
+add-k c = omega arith
 
--- src/find.rt:67:5
 loop-less : tie.Need-loop-less Inv-loop μ-loop
-loop-less c = ?
+loop-less c = omega arith
 
--- src/find.rt:67:5
 loop-again : tie.Need-loop-again Inv-loop μ-loop
-loop-again c = ?
+loop-again c =
+    let in-loop = c .before .before in
+    let args = in-loop .before .before .before .before .before .args in
+    seek-more (args .tree .now) (args .table) (args .node) (args .n) (in-loop .before .before .loop .inv)
+    (in-loop .if2 .taken) (c .before .names-node .ensures) (c .if3 .left)
 
--- src/find.rt:58:1
 returns-3 : tie.Need-returns-3 Inv-loop μ-loop
-returns-3 c = ?
+returns-3 c =
+    let args = c .before .before .before .before .before .args in
+    sym (ap foundOf
+    (seek-ends (args .tree .now) (args .table) (args .node) (args .n) (c .before .before .loop .inv) (c .if2 .left)))
 
 pub numbered-in-spec : {M : Type 1} → statement M
 numbered-in-spec =

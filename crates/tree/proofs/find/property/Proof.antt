@@ -1,22 +1,26 @@
+-- `tree::find::property` meets its contract. Assumes nothing.
 use borrow.Author.Needs.{needs}
+use native.Mathlib.Omega.{arith}
+use mathlib.Core.Path.{ap, _∙_}
+use Rattle.protocol.specs.Tree.{numbered}
+use Rattle.tree.specs.Lent.{foundOf}
+use Rattle.tree.proofs.FindLaws.{properties-in, properties-small}
 use Rattle.tree.proofs.find.property.Statement.{statement}
 use Rattle.tree.proofs.find.property.Tie as tie
-use Rattle.tree.proofs.find.property.Reads as reads
-use Rattle.tree.proofs.find.property.Lts as lts
-use Rattle.tree.proofs.find.numbered_in.Reads as numbered-in-reads
-use Rattle.tree.proofs.find.properties_table.Reads as properties-table-reads
 
--- src/find.rt:103:23
 properties-table-requires : tie.Need-properties-table-requires
 properties-table-requires c κs = search needs
 
--- src/find.rt:103:5
 numbered-in-requires : tie.Need-numbered-in-requires
-numbered-in-requires c κs = ?
+numbered-in-requires c κs =
+    properties-small (c .before .before .args .tree .now) (λ i. omega (arith, c .before .shared-slice-known .given i))
+    (c .properties-table .ensures)
 
--- src/find.rt:100:1
 returns : tie.Need-returns
-returns c = ?
+returns c =
+    let args = c .before .before .before .args in
+    c .numbered-in .ensures
+    ∙ ap (λ xs. foundOf (numbered xs (args .index .0))) (properties-in (args .tree .now) (args .node) (c .before .properties-table .ensures))
 
 pub property-spec : {M : Type 1} → statement M
 property-spec = tie.close (tie.spec properties-table-requires numbered-in-requires returns)

@@ -1,95 +1,103 @@
+-- `tree::record::put_record_texts` meets its contract. Assumes nothing.
+use Prim.Native.Nat.{_+_, _-_, _*_, _<_}
 use borrow.Author.Needs.{needs}
+use native.Mathlib.Omega.{arith}
+use mathlib.Core.Path.{ap₂, _∙_}
+use lib.ListN.{length}
+use Rattle.tree.specs.Form.{propertySize}
+use Rattle.tree.specs.Seen.{propertyCount, optionCount}
+use Rattle.tree.proofs.FieldLaws.{property-near, options-few, record-texts-at, record-texts-none, put-texts-as}
 use Rattle.tree.proofs.record.put_record_texts.Statement.{statement}
 use Rattle.tree.proofs.record.put_record_texts.Tie as tie
-use Rattle.tree.proofs.record.put_record_texts.Reads as reads
-use Rattle.tree.proofs.record.put_record_texts.Lts as lts
-use Rattle.tree.proofs.bytes.byte_at.Reads as byte-at-reads
-use Rattle.tree.proofs.bytes.half_at.Reads as half-at-reads
-use Rattle.tree.proofs.bytes.wide.Reads as wide-reads
-use Rattle.tree.proofs.bytes.word_at.Reads as word-at-reads
-use Rattle.tree.proofs.record.option_count.Reads as option-count-reads
-use Rattle.tree.proofs.record.properties_start.Reads as properties-start-reads
-use Rattle.tree.proofs.texts.put_texts.Reads as put-texts-reads
 
--- src/record.rt:132:20
+-- The place is a property's, so its record is near the front.
+abbrev start : tie.After-properties-start → tie.Start
+start c = c .before .before .before .before .before .before
+
+below : (c : tie.After-properties-start) → start c .args .place < propertyCount (start c .args .tree .now)
+below c = omega arith
+
+near : (c : tie.After-properties-start) → c .properties-start .result + start c .args .place * propertySize < 65536
+near c =
+    let known = c .before .before .before .before .before .shared-slice-known in
+    property-near (start c .args .tree .now) (start c .args .place) (λ i. omega (arith, known .given i)) (below c)
+    (c .properties-start .ensures)
+
 byte-at-requires : tie.Need-byte-at-requires
 byte-at-requires c κs = search needs
 
--- src/record.rt:132:8
 wide-requires : tie.Need-wide-requires
 wide-requires c κs = search needs
 
--- src/record.rt:133:9
 put-texts-requires : tie.Need-put-texts-requires
 put-texts-requires c κs = search needs
 
--- src/record.rt:133:9
 same-length : tie.Need-same-length
 same-length c = search needs
 
--- src/record.rt:133:9
 returns : tie.Need-returns
-returns c = ?
+returns c =
+    let args = c .before .before .before .before .before .before .before .before .before .args in
+    put-texts-as (length (args .out .now) - args .at) (record-texts-none (args .tree .now) (args .place) (omega arith)) (c .before .before .put-texts .ensures)
 
--- src/record.rt:135:18
 properties-start-requires : tie.Need-properties-start-requires
 properties-start-requires c κs = search needs
 
--- src/record.rt:135:43
 mul-record : tie.Need-mul-record
 mul-record c = search needs
 
--- src/record.rt:135:18
 add-record : tie.Need-add-record
-add-record c = ?
+add-record c = omega (arith, near c)
 
--- src/record.rt:137:30
 add-byte-at : tie.Need-add-byte-at
-add-byte-at c = ?
+add-byte-at c = omega (arith, near c)
 
--- src/record.rt:137:9
 byte-at-requires-2 : tie.Need-byte-at-requires-2
 byte-at-requires-2 c κs = search needs
 
--- src/record.rt:138:30
 add-word-at : tie.Need-add-word-at
-add-word-at c = ?
+add-word-at c = omega (arith, near (c .before))
 
--- src/record.rt:138:9
 word-at-requires : tie.Need-word-at-requires
-word-at-requires c κs = ?
+word-at-requires c κs = omega (arith, near (c .before))
 
--- src/record.rt:136:9
 option-count-requires : tie.Need-option-count-requires
 option-count-requires c κs = search needs
 
--- src/record.rt:140:37
 add-half-at : tie.Need-add-half-at
-add-half-at c = ?
+add-half-at c = omega (arith, near (c .before .before .before))
 
--- src/record.rt:140:16
 half-at-requires : tie.Need-half-at-requires
-half-at-requires c κs = ?
+half-at-requires c κs = omega (arith, near (c .before .before .before))
 
--- src/record.rt:140:16
 cast-from : tie.Need-cast-from
 cast-from c = search needs
 
--- src/record.rt:141:34
 add-put-texts : tie.Need-add-put-texts
-add-put-texts c = ?
+add-put-texts c =
+    omega (
+      arith,
+      c .before .option-count .ensures,
+      options-few (c .before .before .before .byte-at2 .result) (c .before .before .word-at .result),
+    )
 
--- src/record.rt:141:5
 put-texts-requires-2 : tie.Need-put-texts-requires-2
 put-texts-requires-2 c κs = search needs
 
--- src/record.rt:129:1
 same-length-2 : tie.Need-same-length-2
 same-length-2 c = search needs
 
--- src/record.rt:129:1
 returns-2 : tie.Need-returns-2
-returns-2 c = ?
+returns-2 c =
+    let half = c .before .before .before .before in
+    let count = half .before in
+    let read = count .before .before .before in
+    let args = start read .args in
+    put-texts-as (length (args .out .now) - args .at)
+    (record-texts-at (args .tree .now) (args .place) (below read) (read .properties-start .ensures)
+    (count .option-count .ensures ∙ ap₂ optionCount (count .before .before .byte-at2 .ensures) (count .before .word-at .ensures))
+    (half .half-at .ensures))
+    (c .before .before .put-texts2 .ensures)
 
 pub put-record-texts-spec : {M : Type 1} → statement M
 put-record-texts-spec =

@@ -1,0 +1,188 @@
+-- A property's numbers, and the texts of nodes and properties, at their places in lent bytes.
+-- Assumes nothing.
+use Prim.Native.Nat.{ℕ, suc, _+_, _*_, _%_, _<_, _≤_}
+use native.Mathlib.Omega.{arith}
+use native.Mathlib.Nat.{add-assoc, add-zero}
+use native.Mathlib.Numerals.{add-one}
+use mathlib.Core.Path.{_≡_, refl, sym, ap, ap₂, subst, _∙_}
+use mathlib.Core.Bool.{Bool, true, false, cond}
+use mathlib.Core.List.{List, [], _∷_, _++_, append-nil}
+use lib.ListN.{length, getD, take, drop, List·getD-eq-default}
+use lib.Seq.{getD-drop, drop-drop, drop-length}
+use lib.Dec.{eqb}
+use Rattle.protocol.specs.Numbers.{enumeration}
+use Rattle.protocol.specs.Bytes.{Bytes, number, text, texts}
+use Rattle.protocol.specs.Buffer.{Put}
+use Rattle.protocol.specs.Request.{beforeZero}
+use Rattle.protocol.specs.Tree.{Node, Property, Tree, nodeIn, propertyIn}
+use Rattle.protocol.specs.Answer.{recordTexts}
+use Rattle.tree.specs.declared.record.Fields.{Fields}
+use Rattle.tree.specs.Form.{nodeSize, propertySize, propertiesStart}
+use Rattle.tree.specs.Seen.{halfAt, wordAt, firstText, afterText, textsFrom, nodeSeen, propertySeen, optionCount, nodeCount, propertyCount, seen}
+use Rattle.tree.specs.Lent.{FieldsAre}
+use Rattle.tree.proofs.RecordLaws.{records-length, records-at}
+
+-- Numbers behind a place.
+module _ (n : ℕ) (bs : List ℕ) (i : ℕ) where
+  byte-behind : (k : ℕ) → getD (drop n bs) (i + k) 0 ≡ getD bs (n + i + k) 0
+  byte-behind k = getD-drop n bs (i + k) 0 ∙ ap (λ m. getD bs m 0) (sym (add-assoc n i k))
+
+  pub half-behind : halfAt i (drop n bs) ≡ halfAt (n + i) bs
+  unfolding halfAt
+  half-behind = ap₂ (λ a b. number (a ∷ b ∷ [])) (getD-drop n bs i 0) (byte-behind 1)
+
+  pub word-behind : wordAt i (drop n bs) ≡ wordAt (n + i) bs
+  unfolding wordAt
+  word-behind =
+      ap₂ (λ a b. number (a ∷ b ∷ getD (drop n bs) (i + 2) 0 ∷ getD (drop n bs) (i + 3) 0 ∷ [])) (getD-drop n bs i 0) (byte-behind 1)
+      ∙ ap₂ (λ c d. number (getD bs (n + i) 0 ∷ getD bs (n + i + 1) 0 ∷ c ∷ d ∷ [])) (byte-behind 2) (byte-behind 3)
+
+-- Where the record of a node begins, and that of a property.
+abbrev nodePlace : ℕ → ℕ
+nodePlace place = 2 + place * nodeSize
+
+abbrev propertyPlace : List ℕ → ℕ → ℕ
+propertyPlace bs place = propertiesStart (nodeCount bs) + place * propertySize
+
+-- Both counts are bytes, so a record lies near the front.
+pub property-near : (bs : List ℕ) (place : ℕ) {start : ℕ} → Bytes bs → place < propertyCount bs → start ≡ propertiesStart (nodeCount bs)
+    → start + place * propertySize < 65536
+property-near bs place all h e = omega (arith, all 0, all 1, h, e)
+
+-- What stands where there is no such place.
+abbrev emptyTree : Tree
+emptyTree = record { nodes = []; properties = [] }
+
+abbrev noNode : Node
+noNode = nodeIn emptyTree 0
+
+abbrev noProperty : Property
+noProperty = propertyIn emptyTree 0
+
+-- What stands at a place of a tree that is seen.
+module _ (bs : List ℕ) (place : ℕ) where
+  pub node-at : place < nodeCount bs → nodeIn (seen bs) place ≡ nodeSeen bs (drop (nodePlace place) bs)
+  unfolding seen
+  node-at h =
+      records-at nodeSize (nodeSeen bs) (nodeCount bs) (drop 2 bs) place noNode h
+      ∙ ap (nodeSeen bs) (drop-drop (place * nodeSize) 2 bs)
+
+  pub node-none : nodeCount bs ≤ place → nodeIn (seen bs) place ≡ noNode
+  unfolding seen
+  node-none h =
+      List·getD-eq-default (seen bs .nodes) noNode {n = place}
+      (omega (arith, records-length nodeSize (nodeSeen bs) (nodeCount bs) (drop 2 bs)))
+
+  pub property-at : place < propertyCount bs → propertyIn (seen bs) place ≡ propertySeen bs (drop (propertyPlace bs place) bs)
+  unfolding seen
+  property-at h =
+      records-at propertySize (propertySeen bs) (propertyCount bs) (drop (propertiesStart (nodeCount bs)) bs) place noProperty h
+      ∙ ap (propertySeen bs) (drop-drop (place * propertySize) (propertiesStart (nodeCount bs)) bs)
+
+  pub property-none : propertyCount bs ≤ place → propertyIn (seen bs) place ≡ noProperty
+  unfolding seen
+  property-none h =
+      List·getD-eq-default (seen bs .properties) noProperty {n = place}
+      (omega (
+        arith,
+        records-length propertySize (propertySeen bs) (propertyCount bs) (drop (propertiesStart (nodeCount bs)) bs),
+      ))
+
+-- A property has few options.
+pub options-few : (kind max : ℕ) → optionCount kind max ≤ 16
+unfolding optionCount
+options-few kind max = few (eqb kind enumeration)
+  where
+    few : (t : Bool) → cond t (suc (max % 16)) 1 ≤ 16
+    few true = omega arith
+    few false = omega arith
+
+-- Numbers that were read from a place on.
+pub record FieldsRead (bs : List ℕ) (at : ℕ) (r : Fields) : Type 0 where
+  pub node : r .node ≡ getD bs at 0
+  pub kind : r .kind ≡ getD bs (at + 1) 0
+  pub min : r .min ≡ wordAt (at + 2) bs
+  pub max : r .max ≡ wordAt (at + 6) bs
+  pub attribute : r .attribute ≡ halfAt (at + 10) bs
+  pub format : r .format ≡ halfAt (at + 12) bs
+
+fields-seen : (bs : List ℕ) {at : ℕ} {r : Fields} → FieldsRead bs at r → FieldsAre (propertySeen bs (drop at bs)) r
+unfolding propertySeen
+fields-seen bs {at} f =
+    record {
+      node = f .node ∙ sym (getD-drop at bs 0 0 ∙ ap (λ n. getD bs n 0) (add-zero at));
+      kind = f .kind ∙ sym (getD-drop at bs 1 0);
+      min = f .min ∙ sym (word-behind at bs 2);
+      max = f .max ∙ sym (word-behind at bs 6);
+      attribute = f .attribute ∙ sym (half-behind at bs 10);
+      format = f .format ∙ sym (half-behind at bs 12);
+    }
+
+module _ (bs : List ℕ) (place : ℕ) where
+  pub fields-at : {start : ℕ} {r : Fields} → place < propertyCount bs → start ≡ propertiesStart (nodeCount bs)
+      → FieldsRead bs (start + place * propertySize) r → FieldsAre (propertyIn (seen bs) place) r
+  fields-at {r = r} h e f =
+      subst (λ p. FieldsAre p r) (sym (property-at bs place h))
+      (fields-seen bs (subst (λ n. FieldsRead bs (n + place * propertySize) r) e f))
+
+  pub fields-none : propertyCount bs ≤ place
+      → FieldsAre (propertyIn (seen bs) place) (record { node = 0; kind = 0; min = 0; max = 0; attribute = 0; format = 0 })
+  fields-none h =
+      subst (λ p. FieldsAre p (record { node = 0; kind = 0; min = 0; max = 0; attribute = 0; format = 0 }))
+      (sym (property-none bs place h))
+      (record { node = refl; kind = refl; min = refl; max = refl; attribute = refl; format = refl })
+
+-- Texts of bytes: one, one and more behind it, and one where the bytes have ended.
+text-first : (bs : List ℕ) → texts (textsFrom 1 bs) ≡ text (firstText bs)
+unfolding texts textsFrom
+text-first bs = append-nil (text (firstText bs))
+
+texts-more : (n : ℕ) (bs : List ℕ) → texts (textsFrom (n + 1) bs) ≡ text (firstText bs) ++ texts (textsFrom n (afterText bs))
+unfolding texts textsFrom
+texts-more n bs = ap (λ m. texts (textsFrom m bs)) (add-one n)
+
+text-ended : (bs : List ℕ) → texts (textsFrom 1 (drop (length bs) bs)) ≡ text []
+unfolding texts textsFrom beforeZero
+text-ended bs = text-first (drop (length bs) bs) ∙ ap (λ l. text (firstText l)) (drop-length bs)
+
+-- A node's name, and a property's texts.
+module _ (bs : List ℕ) (place : ℕ) where
+  pub name-at : {from : ℕ} → place < nodeCount bs → from ≡ halfAt (3 + place * nodeSize) bs
+      → texts (textsFrom 1 (drop from bs)) ≡ text (nodeIn (seen bs) place .name)
+  unfolding nodeSeen
+  name-at {from} h e =
+      let n : 3 + place * nodeSize ≡ nodePlace place + 1 = omega arith in
+      text-first (drop from bs)
+      ∙ ap (λ i. text (firstText (drop i bs))) (e ∙ ap (λ m. halfAt m bs) n ∙ sym (half-behind (nodePlace place) bs 1))
+      ∙ sym (ap (λ x. text (x .name)) (node-at bs place h))
+
+  pub name-none : nodeCount bs ≤ place → texts (textsFrom 1 (drop (length bs) bs)) ≡ text (nodeIn (seen bs) place .name)
+  name-none h = text-ended bs ∙ sym (ap (λ x. text (x .name)) (node-none bs place h))
+
+  pub record-texts-at : {start count from : ℕ} → place < propertyCount bs → start ≡ propertiesStart (nodeCount bs)
+      → count
+      ≡ optionCount (getD bs (start + place * propertySize + 1) 0) (wordAt (start + place * propertySize + 6) bs)
+      → from ≡ halfAt (start + place * propertySize + 14) bs
+      → texts (textsFrom (count + 1) (drop from bs)) ≡ recordTexts (propertyIn (seen bs) place)
+  unfolding propertySeen
+  record-texts-at {start} {count} {from} h e p q =
+      let at : ℕ = start + place * propertySize in
+      let r : List ℕ = drop at bs in
+      let options : count ≡ optionCount (getD r 1 0) (wordAt 6 r) =
+      p ∙ sym (ap₂ optionCount (getD-drop at bs 1 0) (word-behind at bs 6)) in
+      let label : from ≡ halfAt 14 r = q ∙ sym (half-behind at bs 14) in
+      ap₂ (λ n i. texts (textsFrom (n + 1) (drop i bs))) options label
+      ∙ texts-more (optionCount (getD r 1 0) (wordAt 6 r)) (drop (halfAt 14 r) bs)
+      ∙ ap (λ n. recordTexts (propertySeen bs (drop (n + place * propertySize) bs))) e
+      ∙ sym (ap recordTexts (property-at bs place h))
+
+  pub record-texts-none : propertyCount bs ≤ place
+      → texts (textsFrom 1 (drop (length bs) bs)) ≡ recordTexts (propertyIn (seen bs) place)
+  unfolding texts
+  record-texts-none h =
+      text-ended bs ∙ sym (append-nil (text [])) ∙ sym (ap recordTexts (property-none bs place h))
+
+-- Texts that were put, for what they are.
+pub put-texts-as : {at r : ℕ} {ys zs old new : List ℕ} (room : ℕ) → ys ≡ zs → Put at (take room ys) old r new
+    → Put at (take room zs) old r new
+put-texts-as {at} {r} {old = old} {new = new} room e p = subst (λ l. Put at (take room l) old r new) e p
