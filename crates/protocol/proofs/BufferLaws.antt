@@ -77,10 +77,6 @@ puts {at} {r} {r′} {ys} {zs} {old} {mid} {new} h p q =
       bytes = q .bytes ∙ ap₂ (λ n b. putAt n zs b) (p .next) (p .bytes) ∙ put-put old at ys zs h;
     }
 
--- Bytes that were put as far as there was room, where there is room for all.
-pub put-fits : {at r : ℕ} {ys old new : List ℕ} → at + length ys ≤ length old → Put at (fitting at ys old) old r new → Put at ys old r new
-put-fits {at} {r} {ys} {old} {new} h p = subst (λ l. Put at l old r new) (take-all (length old - at) ys (omega (arith, h))) p
-
 -- Bytes put one behind the other, from a place on.
 pub record Filling (bs old : List ℕ) (at : ℕ) (out : List ℕ) (next i : ℕ) : Type 0 where
   pub within : i ≤ length bs
@@ -122,6 +118,15 @@ module _ (bs old : List ℕ) (at : ℕ) where
 pub put-room : {at r : ℕ} {ys old new : List ℕ} → Put at ys old r new → (k : ℕ) → at + length ys + k ≤ length old → r + k ≤ length new
 put-room {at} {r} {ys} {old} p k h =
     omega (arith, p .next, ap length (p .bytes) ∙ length-put old at ys (omega arith))
+
+-- Bytes that were put as far as there was room, where there is room for all.
+pub put-fits : {at r : ℕ} {ys old new : List ℕ} → at + length ys ≤ length old → Put at (fitting at ys old) old r new → Put at ys old r new
+put-fits {at} {r} {ys} {old} {new} h p = subst (λ l. Put at l old r new) (take-all (length old - at) ys (omega (arith, h))) p
+
+-- The same behind other bytes.
+pub puts-fit : {at r r′ : ℕ} {ys old mid new : List ℕ} (zs : List ℕ) → Put at ys old r mid → at + length ys + length zs ≤ length old
+    → Put r (fitting r zs mid) mid r′ new → Put at (ys ++ zs) old r′ new
+puts-fit zs p h q = puts (omega arith) p (put-fits (put-room p (length zs) h) q)
 
 -- What was put from the front on is what a call emits.
 pub put-emits : {r : ℕ} {ys old new : List ℕ} → Put 0 ys old r new → Emits (received ys) old done r new

@@ -13,43 +13,13 @@ use lib.Dec.{eqb, ltb}
 use Rattle.protocol.specs.Numbers.{done, noRoom, roomSerial, roomUdp, PDI, opNode, opRead}
 use Rattle.protocol.specs.Bytes.{word}
 use Rattle.protocol.specs.Frame.{Received, received, refused, frame, datagram, ifSized, ifDone, ifRoom, writeFrame, writeDatagram}
-use Rattle.protocol.specs.Buffer.{putAt, Put, Emits}
+use Rattle.protocol.specs.Buffer.{putAt, fitting, Put, Emits}
 use Rattle.protocol.specs.Request.{Request, allowance, Allowed, dataOf, serialForm, udpForm}
 use Rattle.protocol.proofs.BufferLaws.{put-nil, puts, put-room, length-put, over-put, over-nil, emits-refused, emits-no-room, emits-in-room}
 use Rattle.protocol.proofs.FrameLaws.{ifSized-sized}
 use Rattle.protocol.proofs.RequestLaws.{dataOf-size, dataOf-sized}
 use Rattle.request.specs.Asked.{requestOf}
 use Rattle.request.specs.Write.{writeRequest}
-
--- Bytes put one behind the other from a place on.
-pub record Filling (bs old : List ℕ) (at : ℕ) (out : List ℕ) (next i : ℕ) : Type 0 where
-  pub within : i ≤ length bs
-  pub put : Put at (take i bs) old next out
-
-module _ (bs old : List ℕ) (at : ℕ) (room : at + length bs ≤ length old) where
-  pub fill-begins : Filling bs old at old at 0
-  fill-begins = record { within = omega arith; put = put-nil at old }
-
-  pub fill-more : {out out′ : List ℕ} {next next′ i : ℕ} → Filling bs old at out next i → i < length bs
-      → Put next (getD bs i 0 ∷ []) out next′ out′ → Filling bs old at out′ next′ (i + 1)
-  fill-more {out′ = out′} {next′ = next′} {i = i} f h p =
-      record {
-        within = omega arith;
-        put =
-            subst (λ l. Put at l old next′ out′)
-            (sym (ap (λ n. take n bs) (add-one i) ∙ take-suc bs i 0 h))
-            (puts (omega arith) (f .put) p);
-      }
-
-  pub fill-same : {out : List ℕ} {next i : ℕ} → Filling bs old at out next i → length out ≡ length old
-  fill-same {i = i} f =
-      ap length (f .put .bytes) ∙ length-put old at (take i bs) (omega (arith, length-take i bs))
-
-  pub fill-room : {out : List ℕ} {next i : ℕ} → Filling bs old at out next i → i < length bs → next < length out
-  fill-room {i = i} f h = omega (arith, fill-same f, f .put .next, length-take i bs)
-
-  pub fill-ends : {out : List ℕ} {next i : ℕ} → Filling bs old at out next i → length bs ≤ i → Put at bs old next out
-  fill-ends {out} {next} {i} f h = subst (λ l. Put at l old next out) (take-all i bs h) (f .put)
 
 -- The data of a request by what its op asks for.
 module _ (op : ℕ) (path : List ℕ) (index value : ℕ) where
@@ -62,16 +32,20 @@ module _ (op : ℕ) (path : List ℕ) (index value : ℕ) where
   unfolding dataOf
   data-index h k = sym (rw (lt-ltb opNode op h, le-ltb opRead op k))
 
-  pub data-value : opRead < op → PDI ∷ op ∷ (((path ++ index ∷ []) ++ 0 ∷ []) ++ word value) ≡ dataOf (requestOf op path index value)
+  pub data-value : opRead < op → PDI ∷ op ∷ (path ++ index ∷ 0 ∷ word value) ≡ dataOf (requestOf op path index value)
   unfolding dataOf
-  data-value h =
-      sym (rw (lt-ltb opNode op (omega (arith, h)), lt-ltb opRead op h)
-      (ap (λ l. PDI ∷ op ∷ l)
-      (sym (append-assoc (path ++ index ∷ []) (0 ∷ []) (word value) ∙ append-assoc path (index ∷ []) (0 ∷ word value)))))
+  data-value h = sym (rw (lt-ltb opNode op (omega (arith, h)), lt-ltb opRead op h))
 
 -- Data that was put, for what it is.
 pub put-as : {at r : ℕ} {ys zs old new : List ℕ} → ys ≡ zs → Put at ys old r new → Put at zs old r new
 put-as {at} {r} {old = old} {new = new} e p = subst (λ l. Put at l old r new) e p
+
+pub fit-as : {at r : ℕ} {ys zs old new : List ℕ} → ys ≡ zs → Put at (fitting at ys old) old r new → Put at (fitting at zs old) old r new
+fit-as {at} {r} {old = old} {new = new} e p = subst (λ l. Put at (fitting at l old) old r new) e p
+
+pub length-word : (n : ℕ) → length (word n) ≡ 4
+unfolding word
+length-word n = refl
 
 -- A request written out: with no room, what the table does not allow, and what it allows.
 module _ (least room : ℕ) (form : Request → List ℕ) (r : Request) (old : List ℕ) where

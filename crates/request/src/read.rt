@@ -7,7 +7,6 @@ use super::OP_WRITE_EXTENDED;
 use super::PDI;
 use super::UNKNOWN_COMMAND;
 use super::table;
-use super::write;
 use protocol::DONE;
 use protocol::PropertyIndex;
 ghost use mathlib.Core.Path.{_≡_};
@@ -37,7 +36,7 @@ fn accepted(op: u8, path: &[u8], index: PropertyIndex, value: u32) -> Asked
     ensures { λ r. ⌜ AskedIs (found (requestOf op (now (path .entry)) (index .0) value)) r ⌝ }
 {
     let mut nodes = [0u8; 16];
-    let len = write::put_all(path, &mut nodes, 0);
+    let len = frame::buffer::put_all(path, &mut nodes, 0);
     Asked {
         number: DONE,
         op,

@@ -7,54 +7,36 @@ use super::PDI;
 use super::UNKNOWN_COMMAND;
 use super::table;
 use frame::Written;
+use frame::buffer;
 use protocol::DONE;
 use protocol::NO_ROOM;
 use protocol::PropertyIndex;
+use protocol::ROOM_DATA;
 use protocol::ROOM_SERIAL;
 use protocol::ROOM_UDP;
 ghost use mathlib.Core.Path.{_≡_};
-ghost use mathlib.Core.List.{[], _∷_};
-ghost use Prim.Native.Nat.{_+_, _<_, _≤_};
+ghost use mathlib.Core.List.{_∷_};
+ghost use Prim.Native.Nat.{_≤_};
 ghost use lib.ListN.{length};
-ghost use Rattle.protocol.specs.Numbers.{roomSerial, roomUdp};
+ghost use Rattle.protocol.specs.Numbers.{roomData, roomSerial, roomUdp};
 ghost use Rattle.protocol.specs.Bytes.{word};
 ghost use Rattle.protocol.specs.Buffer.{Put, Emits};
 ghost use Rattle.protocol.specs.Request.{allowance, dataOf, serialForm, udpForm};
 ghost use Rattle.request.specs.Asked.{requestOf};
 ghost use Rattle.request.specs.Write.{writeRequest};
 
-// One byte at a place. Returns the next place.
-fn put(out: &mut [u8], at: usize, b: u8) -> usize
-    requires { ⌜ at < length (now out) ⌝ }
-    ensures { λ r. ⌜ Put at (b ∷ []) (now (out .entry)) r (now (out .exit)) ⌝ }
+// An index, and a value behind a zero, the high byte first.
+fn tail_of(index: PropertyIndex, value: u32) -> [u8; 6]
+    ensures { λ r. ⌜ r ≡ index .0 ∷ 0 ∷ word value ⌝ }
 {
-    out[at] = b;
-    at + 1
-}
-
-// Bytes put at a place. Returns the next place.
-pub(crate) fn put_all(bs: &[u8], out: &mut [u8], at: usize) -> usize
-    requires { ⌜ at + length (now bs) ≤ length (now out) ⌝ }
-    ensures { λ r. ⌜ Put at (now (bs .entry)) (now (out .entry)) r (now (out .exit)) ⌝ }
-{
-    let mut next = at;
-    let mut i = 0;
-    while i < bs.len() {
-        next = put(out, next, bs[i]);
-        i += 1;
-    }
-    next
-}
-
-// A number of 32 bits put at a place, the high byte first.
-fn put_word(out: &mut [u8], at: usize, n: u32) -> usize
-    requires { ⌜ at + 4 ≤ length (now out) ⌝ }
-    ensures { λ r. ⌜ Put at (word n) (now (out .entry)) r (now (out .exit)) ⌝ }
-{
-    let a = put(out, at, (n / 16777216 % 256) as u8);
-    let b = put(out, a, (n / 65536 % 256) as u8);
-    let c = put(out, b, (n / 256 % 256) as u8);
-    put(out, c, (n % 256) as u8)
+    [
+        index.0,
+        0,
+        (value / 16777216 % 256) as u8,
+        (value / 65536 % 256) as u8,
+        (value / 256 % 256) as u8,
+        (value % 256) as u8,
+    ]
 }
 
 // The data of a request, from the front of an output that has room for it.
@@ -62,18 +44,17 @@ fn put_data(op: u8, path: &[u8], index: PropertyIndex, value: u32, out: &mut [u8
     requires { ⌜ (length (now path) ≤ 16) × (24 ≤ length (now out)) ⌝ }
     ensures { λ r. ⌜ Put 0 (dataOf (requestOf op (now (path .entry)) (index .0) value)) (now (out .entry)) r (now (out .exit)) ⌝ }
 {
-    let commanded = put(out, 0, PDI);
-    let named = put(out, commanded, op);
-    let addressed = put_all(path, out, named);
+    let head = [PDI, op];
+    let named = buffer::put_all(&head, out, 0);
+    let addressed = buffer::put_all(path, out, named);
     if op <= OP_NODE {
         return addressed;
     }
-    let indexed = put(out, addressed, index.0);
+    let tail = tail_of(index, value);
     if op <= OP_READ {
-        return indexed;
+        return buffer::put_all(&tail[..1], out, addressed);
     }
-    let parted = put(out, indexed, 0);
-    put_word(out, parted, value)
+    buffer::put_all(&tail, out, addressed)
 }
 
 // What a request is answered with when it is written out: 10, 11 or 0.
@@ -99,7 +80,7 @@ fn data_for(
     value: u32,
     payload: &mut [u8],
 ) -> Written
-    requires { ⌜ 24 ≤ length (now payload) ⌝ }
+    requires { ⌜ (least ≤ room → 24 ≤ length (now payload)) ⌝ }
     ensures { λ r. ⌜ Emits (writeRequest least room dataOf (requestOf op (now (path .entry)) (index .0) value)) (now (payload .entry)) (r .number) (r .len) (now (payload .exit)) ⌝ }
 {
     if room < least {
@@ -114,6 +95,13 @@ fn data_for(
     }
     let len = put_data(op, path, index, value, payload);
     Written { number: DONE, len }
+}
+
+// The data of a request written out: 8, 10, 11 or 0.
+pub fn write_data(op: u8, path: &[u8], index: PropertyIndex, value: u32, out: &mut [u8]) -> Written
+    ensures { λ r. ⌜ Emits (writeRequest roomData (length (now (out .entry))) dataOf (requestOf op (now (path .entry)) (index .0) value)) (now (out .entry)) (r .number) (r .len) (now (out .exit)) ⌝ }
+{
+    data_for(ROOM_DATA, out.len(), op, path, index, value, out)
 }
 
 // A request written out in a frame for an address: 8, 10, 11 or 0.

@@ -2,6 +2,7 @@
 use native.Mathlib.Omega.{arith}
 use mathlib.Core.Path.{refl}
 use borrow.Author.Needs.{needs}
+use Rattle.protocol.proofs.BufferLaws.{put-fits}
 use Rattle.request.proofs.ReadLaws.{padded-put}
 use Rattle.request.proofs.read.accepted.Statement.{statement}
 use Rattle.request.proofs.read.accepted.Tie as tie
@@ -15,11 +16,12 @@ put-all-requires c κs = search needs
 returns : tie.Need-returns
 returns c =
     let put = c .before in
+    let whole = put-fits {ys = put .before .before .before .args .path .now} (omega arith) (put .put-all .ensures) in
     record {
       number = refl;
       op = refl;
-      path = padded-put (put .put-all .ensures);
-      len = omega (arith, put .put-all .ensures .next);
+      path = padded-put whole;
+      len = omega (arith, whole .next);
       index = refl;
       value = refl;
     }

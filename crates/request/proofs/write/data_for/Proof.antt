@@ -40,7 +40,7 @@ put-data-requires : tie.Need-put-data-requires
 put-data-requires c κs =
     let else2 = c .before in
     let start = origin (else2 .before .before) in
-    (path-most (asked start) (fitting (asked start) (allowed else2) .rest), omega (arith, start .pre))
+    (path-most (asked start) (fitting (asked start) (allowed else2) .rest), start .pre (else2 .before .before .if1 .left))
 
 same-length : tie.Need-same-length
 same-length c = search needs

@@ -1,41 +1,39 @@
 -- `request::write::put_data` meets its contract. Assumes nothing.
 use native.Mathlib.Omega.{arith}
+use mathlib.Core.Path.{ap}
 use mathlib.Core.List.{[], _∷_, _++_}
 use borrow.Author.Needs.{needs}
+use lib.ListN.{length, take, length-append}
 use Rattle.protocol.specs.Numbers.{PDI}
+use Rattle.protocol.specs.Bytes.{word}
 use Rattle.protocol.specs.Buffer.{Put}
-use Rattle.protocol.proofs.BufferLaws.{puts}
-use Rattle.request.proofs.WriteLaws.{data-path, data-index, data-value, put-as}
+use Rattle.protocol.proofs.BufferLaws.{put-fits, puts-fit}
+use Rattle.request.proofs.WriteLaws.{data-path, data-index, data-value, put-as, fit-as, length-word, part-size}
 use Rattle.request.proofs.write.put_data.Statement.{statement}
 use Rattle.request.proofs.write.put_data.Tie as tie
 
--- The data up to its path, and up to its index.
-abbrev origin : tie.After-put-all → tie.Start
-origin c = c .before .before .before .before .before .before .before .before .before .before .before .before
+-- The data up to its path.
+abbrev origin : tie.After-put-all2 → tie.Start
+origin c = c .before .before .before .before .before .before .before .before .before
 
-with-path : (c : tie.After-put-all)
-    → Put 0 (PDI ∷ origin c .args .op ∷ origin c .args .path .now) (origin c .args .out .now) (c .put-all .result) (c .put-all .last .1 .0)
+with-path : (c : tie.After-put-all2)
+    → Put 0 (PDI ∷ origin c .args .op ∷ origin c .args .path .now) (origin c .args .out .now) (c .put-all2 .result) (c .put-all2 .last .1 .0)
 with-path c =
-    let second = c .before .before .before .before in
-    let first = second .before .before .before .before in
-    puts (omega arith) (puts (omega arith) (first .put .ensures) (second .put2 .ensures)) (c .put-all .ensures)
+    let start = origin c in
+    let first = c .before .before .before .before in
+    puts-fit (start .args .path .now) (put-fits (omega (arith, start .pre .1)) (first .put-all .ensures)) (omega (arith, start .pre .0, start .pre .1)) (c .put-all2 .ensures)
 
-abbrev pathed : tie.After-put3 → tie.After-put-all
-pathed c = c .before .before .before .before .before
+abbrev pathed : tie.After-tail-of → tie.After-put-all2
+pathed c = c .before .before .before .before
 
-with-index : (c : tie.After-put3)
-    → Put 0 (PDI ∷ origin (pathed c) .args .op ∷ (origin (pathed c) .args .path .now ++ origin (pathed c) .args .index .0 ∷ []))
-    (origin (pathed c) .args .out .now) (c .put3 .result) (c .put3 .last .0)
-with-index c = puts (omega arith) (with-path (pathed c)) (c .put3 .ensures)
-
-put-requires : tie.Need-put-requires
-put-requires c κs = search needs
-
-put-requires-2 : tie.Need-put-requires-2
-put-requires-2 c κs = search needs
+slice-aggregate-put-all : tie.Need-slice-aggregate-put-all
+slice-aggregate-put-all c = search needs
 
 put-all-requires : tie.Need-put-all-requires
 put-all-requires c κs = search needs
+
+put-all-requires-2 : tie.Need-put-all-requires-2
+put-all-requires-2 c κs = search needs
 
 same-length : tie.Need-same-length
 same-length c = search needs
@@ -46,52 +44,70 @@ returns c =
     let start = origin all in
     put-as (data-path (start .args .op) (start .args .path .now) (start .args .index .0) (start .args .value) (c .if1 .taken)) (with-path all)
 
-put-requires-3 : tie.Need-put-requires-3
-put-requires-3 c κs = search needs
+tail-of-requires : tie.Need-tail-of-requires
+tail-of-requires c κs = search needs
+
+array-share-prefix-tail : tie.Need-array-share-prefix-tail
+array-share-prefix-tail c = search needs
+
+slice-aggregate-put-all-2 : tie.Need-slice-aggregate-put-all-2
+slice-aggregate-put-all-2 c =
+    let tail = c .before .before in
+    part-size 1 (tail .tail-of .result) (omega (arith, ap length (tail .tail-of .ensures), length-word (origin (pathed tail) .args .value)))
+
+put-all-requires-3 : tie.Need-put-all-requires-3
+put-all-requires-3 c κs = search needs
 
 same-length-2 : tie.Need-same-length-2
 same-length-2 c = search needs
 
 returns-2 : tie.Need-returns-2
 returns-2 c =
-    let third = c .before .before .before in
-    let else1 = third .before .before in
-    let start = origin (else1 .before .before .before) in
-    put-as (data-index (start .args .op) (start .args .path .now) (start .args .index .0) (start .args .value) (else1 .if1 .left) (c .if2 .taken))
-    (with-index third)
+    let put = c .before .before in
+    let then2 = put .before .before .before in
+    let tail = then2 .before in
+    let else1 = tail .before in
+    let start = origin (pathed tail) in
+    put-as
+    (data-index (start .args .op) (start .args .path .now) (start .args .index .0) (start .args .value) (else1 .if1 .left) (then2 .if2 .taken))
+    (puts-fit (start .args .index .0 ∷ []) (with-path (pathed tail)) (omega (arith, start .pre .0, start .pre .1))
+    (fit-as (ap (take 1) (tail .tail-of .ensures)) (put .put-all3 .ensures)))
 
-put-requires-4 : tie.Need-put-requires-4
-put-requires-4 c κs = search needs
+slice-aggregate-put-all-3 : tie.Need-slice-aggregate-put-all-3
+slice-aggregate-put-all-3 c = search needs
 
-put-word-requires : tie.Need-put-word-requires
-put-word-requires c κs = search needs
+put-all-requires-4 : tie.Need-put-all-requires-4
+put-all-requires-4 c κs = search needs
 
 same-length-3 : tie.Need-same-length-3
 same-length-3 c = search needs
 
 returns-3 : tie.Need-returns-3
 returns-3 c =
-    let word = c .before .before in
-    let fourth = word .before .before .before .before in
-    let else2 = fourth .before .before in
-    let third = else2 .before .before .before in
-    let start = origin (third .before .before .before .before .before) in
+    let put = c .before .before in
+    let else2 = put .before .before .before in
+    let tail = else2 .before in
+    let start = origin (pathed tail) in
     put-as (data-value (start .args .op) (start .args .path .now) (start .args .index .0) (start .args .value) (else2 .if2 .left))
-    (puts (omega arith) (puts (omega arith) (with-index third) (fourth .put4 .ensures)) (word .put-word .ensures))
+    (puts-fit (start .args .index .0 ∷ 0 ∷ word (start .args .value)) (with-path (pathed tail)) (omega (arith, start .pre .0, start .pre .1, length-word (start .args .value)))
+    (fit-as (tail .tail-of .ensures) (put .put-all4 .ensures)))
 
 pub put-data-spec : {M : Type 1} → statement M
 put-data-spec =
     tie.close
     (tie.spec
-    put-requires
-    put-requires-2
+    slice-aggregate-put-all
     put-all-requires
+    put-all-requires-2
     same-length
     returns
-    put-requires-3
+    tail-of-requires
+    array-share-prefix-tail
+    slice-aggregate-put-all-2
+    put-all-requires-3
     same-length-2
     returns-2
-    put-requires-4
-    put-word-requires
+    slice-aggregate-put-all-3
+    put-all-requires-4
     same-length-3
     returns-3)
