@@ -2,3 +2,4 @@
 pub mod RecordLaws
 pub mod TextLaws
 pub mod ParentLaws
+pub mod StepLaws

@@ -48,22 +48,13 @@ bad-step : (b : ℕ) (bs : List ℕ) (left at : ℕ) → stepOf left b ≡ Bad �
 unfolding textsEnd
 bad-step b bs left at e = rw (e, textsEnd)
 
--- A place that was found, or none.
-pub found-at : (o : Option ℕ) {place : ℕ} → At place ≡ foundOf o → o ≡ some place
-found-at none h = absurd (let z : _≡_ {A = ℕ} 0 1 = cc in omega arith)
-found-at (some n) h = cc
-
-pub found-none : (o : Option ℕ) → Nothing ≡ foundOf o → o ≡ none
-found-none none h = refl
-found-none (some n) h = absurd (let z : _≡_ {A = ℕ} 0 1 = cc in omega arith)
-
--- Texts end where their bytes do, or before.
-none-some : {A : Type 0} {n : ℕ} → _≡_ {A = Option ℕ} none (some n) → A
+pub none-some : {A : Type 0} {n : ℕ} → _≡_ {A = Option ℕ} none (some n) → A
 none-some h = absurd (let z : _≡_ {A = ℕ} 0 1 = cc in omega arith)
 
-some-same : {m n : ℕ} → some m ≡ some n → m ≡ n
+pub some-same : {m n : ℕ} → some m ≡ some n → m ≡ n
 some-same h = cc
 
+-- Texts end where their bytes do, or before.
 texts-most : (bs : List ℕ) (left at : ℕ) {end : ℕ} → textsEnd bs left at ≡ some end → end ≤ at + length bs
 unfolding textsEnd
 texts-most [] left at h = none-some h
