@@ -5,7 +5,7 @@ use native.Mathlib.Omega.{arith}
 use native.Mathlib.Nat.{zero-mul, suc-mul, sub-zero, add-zero, add-assoc}
 use native.Mathlib.Numerals.{add-one}
 use mathlib.Core.Path.{_≡_, refl, sym, ap, ap₂, subst, _∙_}
-use mathlib.Core.Bool.{Bool, true, false, cond, _&&_, and-false}
+use mathlib.Core.Bool.{Bool, true, false, cond, not, _&&_, and-false}
 use mathlib.Core.List.{List, [], _∷_, _++_}
 use mathlib.Core.Option.{Option, none, some}
 use borrow.Author.Tests.{leb-true, eqb-true, eqb-false, eq-eqb, ne-eqb}
@@ -14,7 +14,7 @@ use lib.Seq.{drop-drop, getD-drop}
 use lib.Dec.{eqb, leb}
 use Rattle.protocol.specs.Numbers.{maxNodes, maxProperties, maxTexts}
 use Rattle.protocol.specs.Bytes.{number}
-use Rattle.protocol.specs.Tree.{Property, liveSound, propertyIn}
+use Rattle.protocol.specs.Tree.{Property, canRead, canWrite, isLive, liveSound, propertyIn}
 use Rattle.protocol.proofs.TestLaws.{and-left, and-right}
 use Rattle.tree.specs.declared.Found.{Found}
 use Rattle.tree.specs.declared.Found.the-variants.{At, Nothing}
@@ -152,6 +152,12 @@ property-at bs k h =
       options = [];
     }) h
     ∙ ap (propertySeen bs) (drop-drop (k * propertySize) (propertiesStart (nodeCount bs)) bs)
+
+pub live-by : (p : Property) {live reads writes : Bool} → isLive p ≡ live → canRead p ≡ reads → canWrite p ≡ writes
+    → cond live (reads && not writes) true ≡ liveSound p
+unfolding liveSound
+live-by p {live} {reads} e f g =
+    sym (ap₂ (λ l r. cond l (r && not (canWrite p)) true) e f ∙ ap (λ w. cond live (reads && not w) true) g)
 
 pub fields-same : (nodes : ℕ) {p : Property} {f : Fields} → FieldsAre p f → fieldsFit nodes (numbersOf f) ≡ fieldsFit nodes p
 unfolding fieldsFit liveSound kindFits
