@@ -3,3 +3,4 @@ pub mod RecordLaws
 pub mod TextLaws
 pub mod ParentLaws
 pub mod StepLaws
+pub mod CheckLaws

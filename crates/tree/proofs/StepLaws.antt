@@ -6,13 +6,13 @@ use native.Mathlib.Nat.{zero-mul, suc-mul, sub-zero, add-zero, add-assoc}
 use native.Mathlib.Numerals.{add-one}
 use mathlib.Core.Path.{_≡_, refl, sym, ap, ap₂, subst, _∙_}
 use mathlib.Core.Bool.{Bool, true, false, cond, not, _&&_, and-false}
-use mathlib.Core.List.{List, [], _∷_, _++_}
+use mathlib.Core.List.{List, [], _∷_}
 use mathlib.Core.Option.{Option, none, some}
 use borrow.Author.Tests.{leb-true, eqb-true, eqb-false, eq-eqb, ne-eqb}
 use lib.ListN.{length, getD, drop}
 use lib.Seq.{drop-drop, getD-drop}
 use lib.Dec.{eqb, leb}
-use Rattle.protocol.specs.Numbers.{maxNodes, maxProperties, maxTexts}
+use Rattle.protocol.specs.Numbers.{done, unsound, maxNodes, maxProperties, maxTexts}
 use Rattle.protocol.specs.Bytes.{number}
 use Rattle.protocol.specs.Tree.{Property, canRead, canWrite, isLive, liveSound, propertyIn}
 use Rattle.protocol.proofs.TestLaws.{and-left, and-right}
@@ -20,10 +20,11 @@ use Rattle.tree.specs.declared.Found.{Found}
 use Rattle.tree.specs.declared.Found.the-variants.{At, Nothing}
 use Rattle.tree.specs.declared.record.Fields.{Fields}
 use Rattle.tree.specs.Form.{nodeSize, propertySize, propertiesStart, textsStart}
-use Rattle.tree.specs.Seen.{halfAt, wordAt, seen, nodeCount, propertyCount, propertySeen, optionCount}
+use Rattle.tree.specs.Seen.{halfAt, wordAt, seen, isTree, nodeCount, propertyCount, propertySeen, optionCount}
+use Rattle.tree.specs.Cells.{cellsIn, hasCells}
 use Rattle.tree.specs.Check.{textsEndIn, andThen, nameRoom, nodeEnd, kindFits, fieldsFit, propertyEnd, recordsEnd, lineageSound, parentsIn, countsFit, textsFit, endsAt, checked}
-use Rattle.tree.specs.Lent.{foundOf, FieldsAre, numbersOf}
-use Rattle.tree.proofs.RecordLaws.{records-at}
+use Rattle.tree.specs.Lent.{foundOf, FieldsAre, numbersOf, isLent, lentNumber}
+use Rattle.tree.proofs.RecordLaws.{records-length, records-at}
 use Rattle.tree.proofs.TextLaws.{none-some, some-same, texts-within}
 
 -- A place that was found, or none.
@@ -134,6 +135,21 @@ module _ (size : ℕ) (f : List ℕ → ℕ → Option ℕ) (bs : List ℕ) (fro
                 here
                 ∙ ap (λ o. andThen o (λ next. recordsEnd size f (n - (k + 1)) (drop (from + (k + 1) * size) bs) next)) is;
           }
+
+-- Records end where the bytes do, or before, if each does.
+records-within : (size : ℕ) (f : List ℕ → ℕ → Option ℕ) (most : ℕ)
+    → ((r : List ℕ) (at next : ℕ) → at ≤ most → f r at ≡ some next → next ≤ most)
+    → (n : ℕ) (r : List ℕ) (at : ℕ) {next : ℕ} → at ≤ most → recordsEnd size f n r at ≡ some next → next ≤ most
+unfolding recordsEnd andThen
+records-within size f most g zero r at h e = omega (arith, some-same e)
+records-within size f most g (suc n) r at {next} h e =
+    go (f r at) refl (λ mid q. records-within size f most g n (drop size r) mid q)
+  where
+    go : (o : Option ℕ) → f r at ≡ o
+        → ((mid : ℕ) → mid ≤ most → recordsEnd size f n (drop size r) mid ≡ some next → next ≤ most)
+        → next ≤ most
+    go none q rest = none-some (sym (ap (λ o. andThen o (recordsEnd size f n (drop size r))) q) ∙ e)
+    go (some mid) q rest = rest mid (g r at mid h q) (sym (ap (λ o. andThen o (recordsEnd size f n (drop size r))) q) ∙ e)
 
 -- The property at a place, and its numbers.
 pub property-at : (bs : List ℕ) (k : ℕ) → k < propertyCount bs
@@ -269,6 +285,11 @@ module _ (bs : List ℕ) where
         leb-true (textsStart (nodeCount bs) (propertyCount bs)) (length bs)
         (and-right (leb (propertyCount bs) maxProperties) _ (and-right (leb (nodeCount bs) maxNodes) _ later))
 
+    pub names-within : {mid : ℕ} → At mid ≡ foundOf names → mid ≤ length bs
+    names-within e =
+        records-within nodeSize (nodeEnd bs) (length bs) (λ r at next h q. node-within bs r at h q) (nodeCount bs) (drop 2 bs)
+        (textsStart (nodeCount bs) (propertyCount bs)) counted-start (found-at names e)
+
     counted-by : {t : Bool} → lineageSound (parentsIn bs) ≡ t → checked bs ≡ (t && endsAt (textsFit bs) (length bs))
     unfolding checked
     counted-by e = rw (counts, e)
@@ -296,3 +317,13 @@ module _ (bs : List ℕ) where
         pub all-read : {end : ℕ} → At end ≡ foundOf (labels mid) → checked bs ≡ eqb end (length bs)
         unfolding andThen
         all-read f = texts-by (found-at names e) ∙ ap (λ o. endsAt o (length bs)) (found-at (labels mid) f)
+
+-- The number of tree and cells, by the three tests.
+pub lent-by : (tree cells : List ℕ) {t u v : Bool} → isTree tree ≡ t → hasCells cells ≡ u
+    → eqb (length (cellsIn cells)) (propertyCount tree) ≡ v → cond (t && (u && v)) done unsound ≡ lentNumber tree cells
+unfolding lentNumber isLent seen
+lent-by tree cells {t} {u} e f g =
+    let properties : length (seen tree .properties) ≡ propertyCount tree =
+    records-length propertySize (propertySeen tree) (propertyCount tree) (drop (propertiesStart (nodeCount tree)) tree) in
+    sym (ap₂ (λ a b. cond (a && (b && eqb (length (cellsIn cells)) (length (seen tree .properties)))) done unsound) e f
+    ∙ ap (λ v. cond (t && (u && v)) done unsound) (ap (eqb (length (cellsIn cells))) properties ∙ g))

@@ -5,22 +5,21 @@ use native.Mathlib.Omega.{arith}
 use native.Mathlib.Nat.{not-suc-le-zero, zero-min, suc-min-suc, add-zero}
 use native.Mathlib.Numerals.{add-one}
 use mathlib.Core.Path.{_≡_, refl, sym, ap, ap₂, subst, _∙_}
-use mathlib.Core.Bool.{Bool, true, false, cond}
+use mathlib.Core.Bool.{Bool, true, false}
 use mathlib.Core.List.{List, [], _∷_, _++_, append-assoc, append-nil}
 use mathlib.Core.Option.{Option, none, some}
-use borrow.Author.Tests.{eqb-true, eqb-false, ltb-true, ltb-false, eq-eqb, ne-eqb}
-use lib.ListN.{length, getD, take, drop, set, length-take, length-drop, length-set, drop-of-length-le}
+use borrow.Author.Tests.{eqb-true, eqb-false}
+use lib.ListN.{length, getD, take, drop, set, length-take, length-drop, length-set}
 use lib.Seq.{drop-cons, drop-drop, drop-nil, take-nil, getD-drop}
-use lib.Dec.{eqb, ltb}
+use lib.Dec.{eqb}
 use Rattle.protocol.specs.Bytes.{text, texts}
 use Rattle.protocol.specs.Request.{beforeZero}
 use Rattle.protocol.specs.Buffer.{Put}
 use Rattle.protocol.proofs.BufferLaws.{set-put, put-nil, puts}
-use Rattle.tree.specs.declared.Found.{Found}
 use Rattle.tree.specs.declared.Found.the-variants.{At, Nothing}
 use Rattle.tree.specs.declared.texts.Step.{Step}
 use Rattle.tree.specs.declared.texts.Step.the-variants.{On, Ended, Bad}
-use Rattle.tree.specs.Seen.{firstText, afterText, textsFrom}
+use Rattle.tree.specs.Seen.{textsFrom}
 use Rattle.tree.specs.Check.{stepOf, textsEnd, textsEndIn}
 use Rattle.tree.specs.Lent.{foundOf}
 
@@ -89,6 +88,7 @@ module _ (bs : List ℕ) (from count room end : ℕ) where
             ap (λ l. textsEnd l count from)
             (sym (take-min room (drop from bs)) ∙ ap (λ n. take n (drop from bs)) (ap (min room) (length-drop from bs) ∙ n));
       }
+
   module _ {left at : ℕ} (s : Scanning bs from count room end left at) (h : at < end) where
     first : take (end - at) (drop at bs) ≡ getD bs at 0 ∷ take (end - (at + 1)) (drop (at + 1) bs)
     first =

@@ -1,10 +1,9 @@
 -- `tree::check::labels_end` meets its contract. Assumes nothing.
-use Prim.Native.Nat.{_-_}
+use Prim.Native.Nat.{_+_, _-_, _*_}
 use native.Mathlib.Omega.{arith}
 use mathlib.Core.Path.{sym, _∙_}
 use borrow.Author.Needs.{needs}
-use lib.ListN.{length, drop}
-use Prim.Native.Nat.{_+_, _*_}
+use lib.ListN.{drop}
 use Rattle.tree.specs.Form.{propertySize, propertiesStart}
 use Rattle.tree.specs.Seen.{nodeCount, propertyCount}
 use Rattle.tree.specs.Check.{propertyEnd}

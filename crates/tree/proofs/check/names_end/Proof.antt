@@ -1,12 +1,11 @@
 -- `tree::check::names_end` meets its contract. Assumes nothing.
-use Prim.Native.Nat.{_-_}
+use Prim.Native.Nat.{_+_, _-_, _*_}
 use native.Mathlib.Omega.{arith}
 use mathlib.Core.Path.{sym, _∙_}
 use borrow.Author.Needs.{needs}
-use lib.ListN.{length, drop}
-use Prim.Native.Nat.{_+_, _*_}
+use lib.ListN.{drop}
 use Rattle.tree.specs.Form.{nodeSize}
-use Rattle.tree.specs.Seen.{nodeCount, propertyCount}
+use Rattle.tree.specs.Seen.{nodeCount}
 use Rattle.tree.specs.Check.{nodeEnd}
 use Rattle.tree.proofs.StepLaws.{Going, go-begins, go-on, go-fails, go-ends, node-within}
 use Rattle.tree.proofs.check.names_end.Statement.{statement}

@@ -14,7 +14,7 @@ abbrev μ-loop : tie.MeasureT-loop
 μ-loop tree from count out₀ at left₀ next₀ i₀ out left next i = length out₀ - next
 
 loop-holds : tie.Need-loop-holds Inv-loop μ-loop
-loop-holds c = 
+loop-holds c =
     let start = c .before .before in
     copy-begins (start .args .tree .now) (start .args .from) (start .args .count) (start .args .out .now) (start .args .at)
 
@@ -22,7 +22,7 @@ same-length : tie.Need-same-length Inv-loop μ-loop
 same-length c = c .before .before .loop .inv .size
 
 returns : tie.Need-returns Inv-loop μ-loop
-returns c = 
+returns c =
     let in-loop = c .before in
     let start = in-loop .before .before .before .before in
     copy-ends (start .args .tree .now) (start .args .from) (start .args .count) (start .args .out .now) (start .args .at) (in-loop .before .loop .inv) (c .if1 .taken)
@@ -46,7 +46,7 @@ loop-less : tie.Need-loop-less Inv-loop μ-loop
 loop-less c = omega arith
 
 loop-again : tie.Need-loop-again Inv-loop μ-loop
-loop-again c = 
+loop-again c =
     let in-loop = c .before .before .before .before in
     let start = in-loop .before .before .before .before in
     copy-more (start .args .tree .now) (start .args .from) (start .args .count) (start .args .out .now) (start .args .at) (in-loop .before .loop .inv) (in-loop .loop-test .taken) (omega arith) (c .before .before .byte-at .ensures) (c .left-after .ensures) (c .before .after .ensures)
@@ -55,7 +55,7 @@ same-length-2 : tie.Need-same-length-2 Inv-loop μ-loop
 same-length-2 c = c .before .loop .inv .size
 
 returns-2 : tie.Need-returns-2 Inv-loop μ-loop
-returns-2 c = 
+returns-2 c =
     let in-loop = c in
     let start = in-loop .before .before .before .before in
     copy-full (start .args .tree .now) (start .args .from) (start .args .count) (start .args .out .now) (start .args .at) (in-loop .before .loop .inv) (in-loop .loop-test .left)

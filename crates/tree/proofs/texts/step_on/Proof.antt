@@ -23,7 +23,7 @@ returns-3 c = simp (ne-eqb (c .before .before .args .b) 0 (c .before .if1 .left)
 
 returns-4 : tie.Need-returns-4
 unfolding stepOf
-returns-4 c = 
+returns-4 c =
     let b = c .before .before .before .args .b in
     simp (
       ne-eqb b 0 (c .before .before .if1 .left),
@@ -33,7 +33,7 @@ returns-4 c =
 
 returns-5 : tie.Need-returns-5
 unfolding stepOf
-returns-5 c = 
+returns-5 c =
     let b = c .before .before .before .args .b in
     simp (
       ne-eqb b 0 (c .before .before .if1 .left),

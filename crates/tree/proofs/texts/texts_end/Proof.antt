@@ -17,7 +17,7 @@ end-of-room-requires : tie.Need-end-of-room-requires Inv-loop μ-loop
 end-of-room-requires c κs = search needs
 
 loop-holds : tie.Need-loop-holds Inv-loop μ-loop
-loop-holds c = 
+loop-holds c =
     let start = c .before .before in
     scan-begins (start .args .tree .now) (start .args .from) (start .args .count) (start .args .room) (c .end-of-room .result) (start .pre) (c .end-of-room .ensures)
 
@@ -37,7 +37,7 @@ loop-less : tie.Need-loop-less Inv-loop μ-loop
 loop-less c = omega arith
 
 loop-again : tie.Need-loop-again Inv-loop μ-loop
-loop-again c = 
+loop-again c =
     let told = c .before in
     let m = told .before .before in
     let in-loop = m .before .before in
@@ -50,7 +50,7 @@ enum-told : tie.Need-enum-told Inv-loop μ-loop
 enum-told c = search needs
 
 returns : tie.Need-returns Inv-loop μ-loop
-returns c = 
+returns c =
     let m = c .before .before in
     let in-loop = m .before .before in
     let start1 = in-loop .before .before in
@@ -62,7 +62,7 @@ enum-told-2 : tie.Need-enum-told-2 Inv-loop μ-loop
 enum-told-2 c = search needs
 
 returns-2 : tie.Need-returns-2 Inv-loop μ-loop
-returns-2 c = 
+returns-2 c =
     let m = c .before .before in
     let in-loop = m .before .before in
     let start1 = in-loop .before .before in
@@ -71,7 +71,7 @@ returns-2 c =
     (sym (c .enum-told2 .given .1) ∙ m .step-on .ensures)
 
 returns-3 : tie.Need-returns-3 Inv-loop μ-loop
-returns-3 c = 
+returns-3 c =
     let in-loop = c in
     let start1 = in-loop .before .before in
     let start = start1 .before .before in
