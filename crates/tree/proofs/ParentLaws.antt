@@ -79,7 +79,7 @@ pub record Descending (bs : List ℕ) (nodes : ℕ) (depths : List ℕ) (k : ℕ
   pub size : length depths ≡ maxNodes
   pub whole : lineageSound (parentsIn bs) ≡ lineage (drop k (parentsIn bs)) (take k depths)
 
-module _ (bs : List ℕ) {nodes : ℕ} {depths : List ℕ} where
+module _ {bs : List ℕ} {nodes : ℕ} {depths : List ℕ} where
   pub descend-begins : nodes ≡ nodeCount bs → nodes ≤ maxNodes → 1 ≤ nodes → getD bs 2 0 ≡ 0 → length depths ≡ maxNodes
       → take 1 depths ≡ 1 ∷ [] → Descending bs nodes depths 1
   descend-begins e m h d s one =

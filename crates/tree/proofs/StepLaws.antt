@@ -75,14 +75,14 @@ module _ (bs : List ℕ) (k at : ℕ) where
       e ∙ sym (ap foundOf (node-here bs (drop (2 + k * nodeSize) bs) at (half-behind (2 + k * nodeSize) 1 bs place ∙ h)))
 
 -- Records from a place on, of which some are done.
-module _ (size : ℕ) (f : List ℕ → ℕ → Option ℕ) (bs : List ℕ) (from start total : ℕ) where
-  pub record Going (n at k : ℕ) : Type 0 where
-    pub count : n ≡ total
-    pub within : k ≤ n
-    pub inside : at ≤ length bs
-    pub whole : recordsEnd size f total (drop from bs) start ≡ recordsEnd size f (n - k) (drop (from + k * size) bs) at
+pub record Going (size : ℕ) (f : List ℕ → ℕ → Option ℕ) (bs : List ℕ) (from start total n at k : ℕ) : Type 0 where
+  pub count : n ≡ total
+  pub within : k ≤ n
+  pub inside : at ≤ length bs
+  pub whole : recordsEnd size f total (drop from bs) start ≡ recordsEnd size f (n - k) (drop (from + k * size) bs) at
 
-  pub go-begins : {n : ℕ} → n ≡ total → start ≤ length bs → Going n start 0
+module _ {size : ℕ} {f : List ℕ → ℕ → Option ℕ} {bs : List ℕ} {from start total : ℕ} where
+  pub go-begins : {n : ℕ} → n ≡ total → start ≤ length bs → Going size f bs from start total n start 0
   go-begins {n} e h =
       record {
         count = e;
@@ -94,7 +94,7 @@ module _ (size : ℕ) (f : List ℕ → ℕ → Option ℕ) (bs : List ℕ) (fro
             (sym (ap (λ m. from + m) (zero-mul size) ∙ add-zero from));
       }
 
-  module _ {n at k : ℕ} (w : Going n at k) where
+  module _ {n at k : ℕ} (w : Going size f bs from start total n at k) where
     pub go-ends : n ≤ k → At at ≡ foundOf (recordsEnd size f total (drop from bs) start)
     unfolding recordsEnd
     go-ends h =
@@ -123,7 +123,7 @@ module _ (size : ℕ) (f : List ℕ → ℕ → Option ℕ) (bs : List ℕ) (fro
           (found-none (f (drop (from + k * size) bs) at) e)))
 
       pub go-on : {next : ℕ} → (f (drop (from + k * size) bs) at ≡ some next → next ≤ length bs)
-          → At next ≡ foundOf (f (drop (from + k * size) bs) at) → Going n next (k + 1)
+          → At next ≡ foundOf (f (drop (from + k * size) bs) at) → Going size f bs from start total n next (k + 1)
       unfolding andThen
       go-on {next} within e =
           let is : f (drop (from + k * size) bs) at ≡ some next = found-at (f (drop (from + k * size) bs) at) e in

@@ -76,7 +76,7 @@ pub record Scanning (bs : List ℕ) (from count room end left at : ℕ) : Type 0
   pub last : end ≤ length bs
   pub whole : textsEndIn bs room count from ≡ textsEnd (take (end - at) (drop at bs)) left at
 
-module _ (bs : List ℕ) (from count room end : ℕ) where
+module _ {bs : List ℕ} {from count room end : ℕ} where
   pub scan-begins : from ≤ length bs → end ≡ from + min room (length bs - from) → Scanning bs from count room end count from
   scan-begins h e =
       let n : min room (length bs - from) ≡ end - from = omega (arith, e) in
@@ -161,7 +161,7 @@ pub record Copying (bs : List ℕ) (from count : ℕ) (old : List ℕ) (at : ℕ
       take (length old - at) (texts (textsFrom count (drop from bs)))
       ≡ gone ++ take (length old - next) (texts (textsFrom left (drop i bs)))
 
-module _ (bs : List ℕ) (from count : ℕ) (old : List ℕ) (at : ℕ) where
+module _ {bs : List ℕ} {from count : ℕ} {old : List ℕ} {at : ℕ} where
   pub copy-begins : Copying bs from count old at old count at from
   copy-begins = record { gone = []; put = put-nil at old; size = refl; whole = refl }
 

@@ -99,7 +99,7 @@ fn after(len: usize, i: usize) -> usize
     i
 }
 
-// How many texts are still to end behind a byte.
+// How many texts are still to end behind a byte. A zero ends one.
 fn left_after(left: usize, b: u8) -> usize
     requires { ⌜ 1 ≤ left ⌝ }
     ensures { λ r. ⌜ r ≡ left - (1 - b) ⌝ }

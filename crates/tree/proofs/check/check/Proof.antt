@@ -16,7 +16,8 @@ returns : tie.Need-returns
 returns c =
     let treed = c .before in
     let start = treed .before .before .before in
-    lent-by (start .args .tree .now) (start .args .cells .now) (sym (treed .is-tree .ensures) ∙ not-true (treed .is-tree .result) (c .if1 .taken)) refl refl
+    lent-by (start .args .tree .now) (start .args .cells .now)
+    (sym (treed .is-tree .ensures) ∙ not-true (treed .is-tree .result) (c .if1 .taken)) refl refl
 
 has-cells-requires : tie.Need-has-cells-requires
 has-cells-requires c κs = search needs

@@ -56,7 +56,8 @@ counts-fit-requires c κs = search needs
 returns : tie.Need-returns
 returns c =
     let counted = c .before in
-    exact (counted .before) (uncounted (counted .before .before .args .tree .now) (sym (counted .counts-fit .ensures) ∙ not-true (counted .counts-fit .result) (c .if1 .taken)))
+    exact (counted .before) (uncounted (counted .before .before .args .tree .now)
+    (sym (counted .counts-fit .ensures) ∙ not-true (counted .counts-fit .result) (c .if1 .taken)))
 
 parents-sound-requires : tie.Need-parents-sound-requires
 parents-sound-requires c κs = search needs
@@ -82,10 +83,15 @@ mul-start : tie.Need-mul-start
 mul-start c = omega (arith, c .wide .ensures, c .before .before .before .before .before .before .before .shared-slice-known .given 1)
 
 add-start : tie.Need-add-start
-add-start c = omega (arith, c .wide .ensures, c .before .before .properties-start .ensures, c .before .before .before .before .before .before .before .shared-slice-known .given 0, c .before .before .before .before .before .before .before .shared-slice-known .given 1)
+add-start c =
+    let known = c .before .before .before .before .before .before .before .shared-slice-known .given in
+    omega (arith, c .wide .ensures, c .before .before .properties-start .ensures, known 0, known 1)
 
 names-end-requires : tie.Need-names-end-requires
-names-end-requires c κs = omega (arith, start-is c, counted-start (c .before .before .before .before .before .before .before .before .args .tree .now) (counts-hold (c .before .before .before .before .before)))
+names-end-requires c κs =
+    let start = c .before .before .before .before .before .before .before .before in
+    let counts = c .before .before .before .before .before in
+    omega (arith, start-is c, counted-start (start .args .tree .now) (counts-hold counts))
 
 enum-known-mid : tie.Need-enum-known-mid
 enum-known-mid c = search needs
@@ -123,7 +129,8 @@ returns-4 c =
     let counts = parents .before .before in
     let start = counts .before .before .before in
     exact (counts .before .before)
-    (labelless (start .args .tree .now) (counts-hold counts) (parents-hold parents) (sym (labelled .before .before .mid .given .1) ∙ names-is named)
+    (labelless (start .args .tree .now) (counts-hold counts) (parents-hold parents)
+    (sym (labelled .before .before .mid .given .1) ∙ names-is named)
     (sym (c .enum-told2 .given .1) ∙ labelled .labels-end .ensures))
 
 returns-5 : tie.Need-returns-5
@@ -134,7 +141,8 @@ returns-5 c =
     let counts = parents .before .before in
     let start = counts .before .before .before in
     exact (counts .before .before)
-    (all-read (start .args .tree .now) (counts-hold counts) (parents-hold parents) (sym (labelled .before .before .mid .given .1) ∙ names-is named)
+    (all-read (start .args .tree .now) (counts-hold counts) (parents-hold parents)
+    (sym (labelled .before .before .mid .given .1) ∙ names-is named)
     (sym (c .before .end .given .1) ∙ labelled .labels-end .ensures))
 
 pub is-tree-spec : {M : Type 1} → statement M

@@ -1,9 +1,8 @@
 -- `tree::check::labels_end` meets its contract. Assumes nothing.
-use Prim.Native.Nat.{_+_, _-_, _*_}
+use Prim.Native.Nat.{_-_}
 use native.Mathlib.Omega.{arith}
 use mathlib.Core.Path.{sym, _∙_}
 use borrow.Author.Needs.{needs}
-use lib.ListN.{drop}
 use Rattle.tree.specs.Form.{propertySize, propertiesStart}
 use Rattle.tree.specs.Seen.{nodeCount, propertyCount}
 use Rattle.tree.specs.Check.{propertyEnd}
@@ -26,7 +25,7 @@ wide-requires c κs = search needs
 loop-holds : tie.Need-loop-holds Inv-loop μ-loop
 loop-holds c =
     let start = c .before .before .before in
-    go-begins propertySize (propertyEnd (start .args .tree .now)) (start .args .tree .now) (propertiesStart (nodeCount (start .args .tree .now))) (start .args .start) (propertyCount (start .args .tree .now)) (c .wide .ensures ∙ c .before .byte-at .ensures) (start .pre)
+    go-begins (c .wide .ensures ∙ c .before .byte-at .ensures) (start .pre)
 
 property-end-requires : tie.Need-property-end-requires Inv-loop μ-loop
 property-end-requires c κs = (omega (arith, c .before .loop .inv .count), c .before .loop .inv .inside)
@@ -40,8 +39,8 @@ enum-told c = search needs
 returns : tie.Need-returns Inv-loop μ-loop
 returns c =
     let loop = c .before .before .before .before in
-    let start = loop .before .before .before .before in
-    go-fails propertySize (propertyEnd (start .args .tree .now)) (start .args .tree .now) (propertiesStart (nodeCount (start .args .tree .now))) (start .args .start) (propertyCount (start .args .tree .now)) (loop .loop .inv) (c .before .before .before .loop-test .taken) (sym (c .enum-told .given .1) ∙ c .before .before .property-end .ensures)
+    go-fails (loop .loop .inv) (c .before .before .before .loop-test .taken)
+    (sym (c .enum-told .given .1) ∙ c .before .before .property-end .ensures)
 
 add-k : tie.Need-add-k Inv-loop μ-loop
 add-k c = omega arith
@@ -52,16 +51,14 @@ loop-less c = omega arith
 loop-again : tie.Need-loop-again Inv-loop μ-loop
 loop-again c =
     let loop = c .before .before .before .before .before in
-    let start = loop .before .before .before .before in
-    go-on propertySize (propertyEnd (start .args .tree .now)) (start .args .tree .now) (propertiesStart (nodeCount (start .args .tree .now))) (start .args .start) (propertyCount (start .args .tree .now)) (loop .loop .inv) (c .before .before .before .before .loop-test .taken)
-    (property-within (start .args .tree .now) (drop ((propertiesStart (nodeCount (start .args .tree .now))) + loop .loop .k * propertySize) (start .args .tree .now)) (loop .loop .at) (loop .loop .inv .inside))
+    go-on (loop .loop .inv) (c .before .before .before .before .loop-test .taken)
+    (property-within _ _ _ (loop .loop .inv .inside))
     (sym (c .before .next .given .1) ∙ c .before .before .before .property-end .ensures)
 
 returns-2 : tie.Need-returns-2 Inv-loop μ-loop
 returns-2 c =
     let loop = c .before in
-    let start = loop .before .before .before .before in
-    go-ends propertySize (propertyEnd (start .args .tree .now)) (start .args .tree .now) (propertiesStart (nodeCount (start .args .tree .now))) (start .args .start) (propertyCount (start .args .tree .now)) (loop .loop .inv) (c .loop-test .left)
+    go-ends (loop .loop .inv) (c .loop-test .left)
 
 pub labels-end-spec : {M : Type 1} → statement M
 labels-end-spec =

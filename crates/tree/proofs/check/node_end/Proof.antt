@@ -20,7 +20,8 @@ cast-if1 c = search needs
 returns : tie.Need-returns
 returns c =
     let start = c .before .before .before in
-    node-elsewhere (start .args .tree .now) (start .args .k) (start .args .at) (λ e. c .if1 .taken (c .before .half-at .ensures ∙ e))
+    node-elsewhere (start .args .tree .now) (start .args .k) (start .args .at)
+    (λ e. c .if1 .taken (c .before .half-at .ensures ∙ e))
 
 texts-end-requires : tie.Need-texts-end-requires
 texts-end-requires c κs = search needs
@@ -28,7 +29,8 @@ texts-end-requires c κs = search needs
 returns-2 : tie.Need-returns-2
 returns-2 c =
     let start = c .before .before .before .before in
-    node-ends (start .args .tree .now) (start .args .k) (start .args .at) (sym (c .before .before .half-at .ensures) ∙ c .before .if1 .left) (c .texts-end .ensures)
+    node-ends (start .args .tree .now) (start .args .k) (start .args .at)
+    (sym (c .before .before .half-at .ensures) ∙ c .before .if1 .left) (c .texts-end .ensures)
 
 pub node-end-spec : {M : Type 1} → statement M
 node-end-spec =

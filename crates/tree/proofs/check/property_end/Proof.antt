@@ -44,7 +44,9 @@ returns c =
     let fit = c .before in
     let count = fit .before in
     let start = count .before .before .before .before in
-    property-unfit (start .args .tree .now) (start .args .k) (start .args .at) (count .wide .ensures ∙ count .before .byte-at .ensures) (start .pre .0) (count .before .before .read-fields .ensures) (sym (fit .fields-fit .ensures) ∙ not-true (fit .fields-fit .result) (c .if1 .taken))
+    property-unfit (start .args .tree .now) (start .args .k) (start .args .at)
+    (count .wide .ensures ∙ count .before .byte-at .ensures) (start .pre .0) (count .before .before .read-fields .ensures)
+    (sym (fit .fields-fit .ensures) ∙ not-true (fit .fields-fit .result) (c .if1 .taken))
 
 properties-start-requires : tie.Need-properties-start-requires
 properties-start-requires c κs = search needs
@@ -53,13 +55,19 @@ mul-place : tie.Need-mul-place
 mul-place c = omega (arith, c .before .before .before .before .before .before .shared-slice-known .given 1)
 
 add-place : tie.Need-add-place
-add-place c = omega (arith, c .properties-start .ensures, c .before .before .before .before .before .before .shared-slice-known .given 0, c .before .before .before .before .before .before .shared-slice-known .given 1)
+add-place c =
+    let known = c .before .before .before .before .before .before .shared-slice-known .given in
+    omega (arith, c .properties-start .ensures, known 0, known 1)
 
 add-place-2 : tie.Need-add-place-2
-add-place-2 c = omega (arith, c .properties-start .ensures, c .before .before .before .before .before .before .shared-slice-known .given 0, c .before .before .before .before .before .before .shared-slice-known .given 1)
+add-place-2 c =
+    let known = c .before .before .before .before .before .before .shared-slice-known .given in
+    omega (arith, c .properties-start .ensures, known 0, known 1)
 
 half-at-requires : tie.Need-half-at-requires
-half-at-requires c κs = omega (arith, c .properties-start .ensures, c .before .before .before .before .before .before .shared-slice-known .given 0, c .before .before .before .before .before .before .shared-slice-known .given 1)
+half-at-requires c κs =
+    let known = c .before .before .before .before .before .before .shared-slice-known .given in
+    omega (arith, c .properties-start .ensures, known 0, known 1)
 
 cast-if2 : tie.Need-cast-if2
 cast-if2 c = search needs
@@ -69,7 +77,9 @@ returns-2 c =
     let fit = c .before .before .before .before in
     let count = fit .before in
     let start = count .before .before .before .before in
-    property-elsewhere (start .args .tree .now) (start .args .k) (start .args .at) (count .wide .ensures ∙ count .before .byte-at .ensures) (start .pre .0) (count .before .before .read-fields .ensures) (λ e. c .if2 .taken (half-is (c .before) ∙ e))
+    property-elsewhere (start .args .tree .now) (start .args .k) (start .args .at)
+    (count .wide .ensures ∙ count .before .byte-at .ensures) (start .pre .0) (count .before .before .read-fields .ensures)
+    (λ e. c .if2 .taken (half-is (c .before) ∙ e))
 
 texts-end-requires : tie.Need-texts-end-requires
 texts-end-requires c κs = search needs
@@ -87,7 +97,8 @@ returns-3 c =
     let fit = c .before .before .before .before .before .before .before in
     let count = fit .before in
     let start = count .before .before .before .before in
-    property-unnamed (start .args .tree .now) (start .args .k) (start .args .at) (count .wide .ensures ∙ count .before .byte-at .ensures) (start .pre .0) (count .before .before .read-fields .ensures)
+    property-unnamed (start .args .tree .now) (start .args .k) (start .args .at)
+    (count .wide .ensures ∙ count .before .byte-at .ensures) (start .pre .0) (count .before .before .read-fields .ensures)
     (sym (fit .fields-fit .ensures) ∙ not-false (fit .fields-fit .result) (here .before .before .before .if1 .left))
     (sym (half-is (here .before)) ∙ here .if2 .left)
     (sym (c .enum-told .given .1) ∙ named .texts-end .ensures)
@@ -100,7 +111,8 @@ texts-end-requires-2 c κs =
     let named = c .before .before .before .before in
     let start = named .before .before .before .before .before .before .before .before .before .before in
     texts-within (start .args .tree .now) nameRoom 1 (start .args .at) (start .pre .1)
-    (found-at (textsEndIn (start .args .tree .now) nameRoom 1 (start .args .at)) (sym (c .before .before .mid .given .1) ∙ named .texts-end .ensures))
+    (found-at (textsEndIn (start .args .tree .now) nameRoom 1 (start .args .at))
+    (sym (c .before .before .mid .given .1) ∙ named .texts-end .ensures))
 
 returns-4 : tie.Need-returns-4
 returns-4 c =
@@ -110,7 +122,8 @@ returns-4 c =
     let fit = c .before .before .before .before .before .before .before .before .before .before in
     let count = fit .before in
     let start = count .before .before .before .before in
-    property-ends (start .args .tree .now) (start .args .k) (start .args .at) (count .wide .ensures ∙ count .before .byte-at .ensures) (start .pre .0) (count .before .before .read-fields .ensures)
+    property-ends (start .args .tree .now) (start .args .k) (start .args .at)
+    (count .wide .ensures ∙ count .before .byte-at .ensures) (start .pre .0) (count .before .before .read-fields .ensures)
     (sym (fit .fields-fit .ensures) ∙ not-false (fit .fields-fit .result) (here .before .before .before .if1 .left))
     (sym (half-is (here .before)) ∙ here .if2 .left)
     (sym (told .mid .given .1) ∙ named .texts-end .ensures)

@@ -38,7 +38,7 @@ array-write-depths c = search needs
 
 loop-holds : tie.Need-loop-holds Inv-loop μ-loop
 loop-holds c =
-    descend-begins (c .before .before .before .before .before .before .before .args .tree .now)
+    descend-begins
     (c .before .before .before .before .wide .ensures ∙ c .before .before .before .before .before .byte-at .ensures)
     (omega arith) (omega arith) (sym (c .before .byte-at2 .ensures) ∙ c .if3 .left) refl refl
 
@@ -57,8 +57,8 @@ wide-requires-2 c κs = search needs
 returns-4 : tie.Need-returns-4 Inv-loop μ-loop
 returns-4 c =
     let loop = c .before .before .before .before in
-    let start = loop .before .before .before .before .before .before .before .before in
-    descend-behind (start .args .tree .now) (loop .loop .inv) (c .before .before .before .loop-test .taken) (c .before .wide2 .ensures ∙ c .before .before .byte-at3 .ensures) (c .if4 .taken)
+    descend-behind (loop .loop .inv) (c .before .before .before .loop-test .taken)
+    (c .before .wide2 .ensures ∙ c .before .before .byte-at3 .ensures) (c .if4 .taken)
 
 array-read-depth : tie.Need-array-read-depth Inv-loop μ-loop
 array-read-depth c = omega arith
@@ -66,8 +66,8 @@ array-read-depth c = omega arith
 returns-5 : tie.Need-returns-5 Inv-loop μ-loop
 returns-5 c =
     let loop = c .before .before .before .before .before in
-    let start = loop .before .before .before .before .before .before .before .before in
-    descend-deep (start .args .tree .now) (loop .loop .inv) (c .before .before .before .before .loop-test .taken) (c .before .before .wide2 .ensures ∙ c .before .before .before .byte-at3 .ensures) (c .before .if4 .left) (c .if5 .taken)
+    descend-deep (loop .loop .inv) (c .before .before .before .before .loop-test .taken)
+    (c .before .before .wide2 .ensures ∙ c .before .before .before .byte-at3 .ensures) (c .before .if4 .left) (c .if5 .taken)
 
 add-depths : tie.Need-add-depths Inv-loop μ-loop
 add-depths c = omega arith
@@ -84,14 +84,13 @@ loop-less c = omega arith
 loop-again : tie.Need-loop-again Inv-loop μ-loop
 loop-again c =
     let loop = c .before .before .before .before .before in
-    let start = loop .before .before .before .before .before .before .before .before in
-    descend-on (start .args .tree .now) (loop .loop .inv) (c .before .before .before .before .loop-test .taken) (c .before .before .wide2 .ensures ∙ c .before .before .before .byte-at3 .ensures) (c .before .if4 .left) (c .if5 .left)
+    descend-on (loop .loop .inv) (c .before .before .before .before .loop-test .taken)
+    (c .before .before .wide2 .ensures ∙ c .before .before .before .byte-at3 .ensures) (c .before .if4 .left) (c .if5 .left)
 
 returns-6 : tie.Need-returns-6 Inv-loop μ-loop
 returns-6 c =
     let loop = c .before in
-    let start = loop .before .before .before .before .before .before .before .before in
-    descend-ends (start .args .tree .now) (loop .loop .inv) (c .loop-test .left)
+    descend-ends (loop .loop .inv) (c .loop-test .left)
 
 pub parents-sound-spec : {M : Type 1} → statement M
 parents-sound-spec =

@@ -15,8 +15,7 @@ abbrev μ-loop : tie.MeasureT-loop
 
 loop-holds : tie.Need-loop-holds Inv-loop μ-loop
 loop-holds c =
-    let start = c .before .before in
-    copy-begins (start .args .tree .now) (start .args .from) (start .args .count) (start .args .out .now) (start .args .at)
+    copy-begins
 
 same-length : tie.Need-same-length Inv-loop μ-loop
 same-length c = c .before .before .loop .inv .size
@@ -24,8 +23,7 @@ same-length c = c .before .before .loop .inv .size
 returns : tie.Need-returns Inv-loop μ-loop
 returns c =
     let in-loop = c .before in
-    let start = in-loop .before .before .before .before in
-    copy-ends (start .args .tree .now) (start .args .from) (start .args .count) (start .args .out .now) (start .args .at) (in-loop .before .loop .inv) (c .if1 .taken)
+    copy-ends (in-loop .before .loop .inv) (c .if1 .taken)
 
 byte-at-requires : tie.Need-byte-at-requires Inv-loop μ-loop
 byte-at-requires c κs = search needs
@@ -48,8 +46,8 @@ loop-less c = omega arith
 loop-again : tie.Need-loop-again Inv-loop μ-loop
 loop-again c =
     let in-loop = c .before .before .before .before in
-    let start = in-loop .before .before .before .before in
-    copy-more (start .args .tree .now) (start .args .from) (start .args .count) (start .args .out .now) (start .args .at) (in-loop .before .loop .inv) (in-loop .loop-test .taken) (omega arith) (c .before .before .byte-at .ensures) (c .left-after .ensures) (c .before .after .ensures)
+    copy-more (in-loop .before .loop .inv) (in-loop .loop-test .taken) (omega arith)
+    (c .before .before .byte-at .ensures) (c .left-after .ensures) (c .before .after .ensures)
 
 same-length-2 : tie.Need-same-length-2 Inv-loop μ-loop
 same-length-2 c = c .before .loop .inv .size
@@ -57,8 +55,7 @@ same-length-2 c = c .before .loop .inv .size
 returns-2 : tie.Need-returns-2 Inv-loop μ-loop
 returns-2 c =
     let in-loop = c in
-    let start = in-loop .before .before .before .before in
-    copy-full (start .args .tree .now) (start .args .from) (start .args .count) (start .args .out .now) (start .args .at) (in-loop .before .loop .inv) (in-loop .loop-test .left)
+    copy-full (in-loop .before .loop .inv) (in-loop .loop-test .left)
 
 pub put-texts-spec : {M : Type 1} → statement M
 put-texts-spec =

@@ -19,7 +19,7 @@ end-of-room-requires c κs = search needs
 loop-holds : tie.Need-loop-holds Inv-loop μ-loop
 loop-holds c =
     let start = c .before .before in
-    scan-begins (start .args .tree .now) (start .args .from) (start .args .count) (start .args .room) (c .end-of-room .result) (start .pre) (c .end-of-room .ensures)
+    scan-begins (start .pre) (c .end-of-room .ensures)
 
 shared-slice-read-b : tie.Need-shared-slice-read-b Inv-loop μ-loop
 shared-slice-read-b c = omega arith
@@ -41,9 +41,7 @@ loop-again c =
     let told = c .before in
     let m = told .before .before in
     let in-loop = m .before .before in
-    let start1 = in-loop .before .before in
-    let start = start1 .before .before in
-    scan-on (start .args .tree .now) (start .args .from) (start .args .count) (start .args .room) (start1 .end-of-room .result) (in-loop .before .loop .inv) (in-loop .loop-test .taken)
+    scan-on (in-loop .before .loop .inv) (in-loop .loop-test .taken)
     (sym (told .next .given .1) ∙ m .step-on .ensures)
 
 enum-told : tie.Need-enum-told Inv-loop μ-loop
@@ -53,9 +51,7 @@ returns : tie.Need-returns Inv-loop μ-loop
 returns c =
     let m = c .before .before in
     let in-loop = m .before .before in
-    let start1 = in-loop .before .before in
-    let start = start1 .before .before in
-    scan-ended (start .args .tree .now) (start .args .from) (start .args .count) (start .args .room) (start1 .end-of-room .result) (in-loop .before .loop .inv) (in-loop .loop-test .taken)
+    scan-ended (in-loop .before .loop .inv) (in-loop .loop-test .taken)
     (sym (c .enum-told .given .1) ∙ m .step-on .ensures)
 
 enum-told-2 : tie.Need-enum-told-2 Inv-loop μ-loop
@@ -65,17 +61,13 @@ returns-2 : tie.Need-returns-2 Inv-loop μ-loop
 returns-2 c =
     let m = c .before .before in
     let in-loop = m .before .before in
-    let start1 = in-loop .before .before in
-    let start = start1 .before .before in
-    scan-bad (start .args .tree .now) (start .args .from) (start .args .count) (start .args .room) (start1 .end-of-room .result) (in-loop .before .loop .inv) (in-loop .loop-test .taken)
+    scan-bad (in-loop .before .loop .inv) (in-loop .loop-test .taken)
     (sym (c .enum-told2 .given .1) ∙ m .step-on .ensures)
 
 returns-3 : tie.Need-returns-3 Inv-loop μ-loop
 returns-3 c =
     let in-loop = c in
-    let start1 = in-loop .before .before in
-    let start = start1 .before .before in
-    scan-out (start .args .tree .now) (start .args .from) (start .args .count) (start .args .room) (start1 .end-of-room .result) (in-loop .before .loop .inv) (in-loop .loop-test .left)
+    scan-out (in-loop .before .loop .inv) (in-loop .loop-test .left)
 
 pub texts-end-spec : {M : Type 1} → statement M
 texts-end-spec =
