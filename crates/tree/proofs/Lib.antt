@@ -13,3 +13,6 @@ pub mod ByteLaws
 pub mod CellLaws
 pub mod FindLaws
 pub mod FieldLaws
+pub mod TextLaws
+pub mod ParentLaws
+pub mod StepLaws

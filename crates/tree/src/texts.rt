@@ -2,7 +2,7 @@
 use super::Found;
 use super::bytes;
 ghost use mathlib.Core.Path.{_≡_};
-ghost use Prim.Native.Nat.{_-_, _≤_};
+ghost use Prim.Native.Nat.{_+_, _-_, _≤_, min};
 ghost use lib.ListN.{length, take, drop};
 ghost use Rattle.protocol.specs.Bytes.{texts};
 ghost use Rattle.protocol.specs.Buffer.{Put};
@@ -38,6 +38,7 @@ fn step_on(left: usize, b: u8) -> Step
 // The lesser of the end of the bytes and a place so far behind another.
 fn end_of_room(len: usize, from: usize, room: usize) -> usize
     requires { ⌜ from ≤ len ⌝ }
+    ensures { λ r. ⌜ r ≡ from + min room (len - from) ⌝ }
 {
     if room < len - from {
         return from + room;
@@ -89,16 +90,19 @@ pub(crate) fn put_texts(tree: &[u8], from: usize, count: usize, out: &mut [u8], 
 }
 
 // The place behind one, which stays where the bytes have ended.
-fn after(len: usize, i: usize) -> usize {
+fn after(len: usize, i: usize) -> usize
+    ensures { λ r. ⌜ r ≡ i + min 1 (len - i) ⌝ }
+{
     if i < len {
         return i + 1;
     }
     i
 }
 
-// How many texts are still to end behind a byte.
+// How many texts are still to end behind a byte. A zero ends one.
 fn left_after(left: usize, b: u8) -> usize
     requires { ⌜ 1 ≤ left ⌝ }
+    ensures { λ r. ⌜ r ≡ left - (1 - b) ⌝ }
 {
     if b == 0 {
         return left - 1;

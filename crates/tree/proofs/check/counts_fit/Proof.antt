@@ -1,54 +1,69 @@
+-- `tree::check::counts_fit` meets its contract. Assumes nothing.
+use native.Mathlib.Omega.{arith}
+use borrow.Author.Tests.{le-leb, lt-leb}
 use borrow.Author.Needs.{needs}
+use lib.ListN.{length, getD}
+use Rattle.protocol.specs.Numbers.{maxNodes, maxProperties}
+use Rattle.tree.specs.Check.{countsFit}
 use Rattle.tree.proofs.check.counts_fit.Statement.{statement}
 use Rattle.tree.proofs.check.counts_fit.Tie as tie
-use Rattle.tree.proofs.check.counts_fit.Reads as reads
-use Rattle.tree.proofs.check.counts_fit.Lts as lts
-use Rattle.tree.proofs.bytes.wide.Reads as wide-reads
-use Rattle.tree.proofs.record.properties_start.Reads as properties-start-reads
 
--- src/check.rt:142:9
 returns : tie.Need-returns
-returns c = ?
+unfolding countsFit
+returns c =
+    simp (lt-leb 2 (length (c .before .before .args .tree .now)) (c .if1 .taken))
 
--- src/check.rt:144:32
 shared-slice-read-wide : tie.Need-shared-slice-read-wide
 shared-slice-read-wide c = search needs
 
--- src/check.rt:144:20
 wide-requires : tie.Need-wide-requires
 wide-requires c κs = search needs
 
--- src/check.rt:145:9
 returns-2 : tie.Need-returns-2
-returns-2 c = ?
+unfolding countsFit
+returns-2 c =
+    let bs = c .before .before .before .before .before .args .tree .now in
+    simp (
+      le-leb 2 (length bs) (c .before .before .before .if1 .left),
+      lt-leb (getD bs 0 0) maxNodes (omega arith),
+    )
 
--- src/check.rt:147:34
 shared-slice-read-wide-2 : tie.Need-shared-slice-read-wide-2
 shared-slice-read-wide-2 c = search needs
 
--- src/check.rt:147:9
 wide-requires-2 : tie.Need-wide-requires-2
 wide-requires-2 c κs = search needs
 
--- src/check.rt:149:9
 returns-3 : tie.Need-returns-3
-returns-3 c = ?
+unfolding countsFit
+returns-3 c =
+    let bs = c .before .before .before .before .before .before .before .before .args .tree .now in
+    simp (
+      le-leb 2 (length bs) (omega arith),
+      le-leb (getD bs 0 0) maxNodes (omega arith),
+      lt-leb (getD bs 1 0) maxProperties (omega arith),
+    )
 
--- src/check.rt:151:5
 properties-start-requires : tie.Need-properties-start-requires
 properties-start-requires c κs = search needs
 
--- src/check.rt:151:38
 mul-result : tie.Need-mul-result
 mul-result c = search needs
 
--- src/check.rt:151:5
 add-result : tie.Need-add-result
 add-result c = search needs
 
--- src/check.rt:138:1
 returns-4 : tie.Need-returns-4
-returns-4 c = ?
+unfolding countsFit
+returns-4 c =
+    let bs = c .before .before .before .before .before .before .before .before .before .args .tree .now in
+    simp (
+      c .properties-start .ensures,
+      c .before .before .wide2 .ensures,
+      le-leb 2 (length bs) (omega arith),
+      le-leb (getD bs 0 0) maxNodes (omega arith),
+      le-leb (getD bs 1 0) maxProperties (omega arith),
+    )
 
 pub counts-fit-spec : {M : Type 1} → statement M
 counts-fit-spec =

@@ -1,35 +1,46 @@
+-- `tree::check::fields_fit` meets its contract. Assumes nothing.
+use native.Mathlib.Omega.{arith}
+use mathlib.Core.Path.{sym, _∙_}
+use borrow.Author.Tests.{not-true, not-false, lt-ltb, le-ltb}
 use borrow.Author.Needs.{needs}
+use Rattle.tree.specs.Check.{fieldsFit}
 use Rattle.tree.proofs.check.fields_fit.Statement.{statement}
 use Rattle.tree.proofs.check.fields_fit.Tie as tie
-use Rattle.tree.proofs.check.fields_fit.Reads as reads
-use Rattle.tree.proofs.check.fields_fit.Lts as lts
-use Rattle.tree.proofs.bytes.wide.Reads as wide-reads
-use Rattle.tree.proofs.check.kind_fits.Reads as kind-fits-reads
-use Rattle.tree.proofs.check.live_fits.Reads as live-fits-reads
 
--- src/check.rt:91:17
 wide-requires : tie.Need-wide-requires
 wide-requires c κs = search needs
 
--- src/check.rt:92:9
 returns : tie.Need-returns
-returns c = ?
+unfolding fieldsFit
+returns c =
+    let start = c .before .before in
+    simp (le-ltb (start .args .f .node) (start .args .nodes) (omega arith))
 
--- src/check.rt:94:9
 live-fits-requires : tie.Need-live-fits-requires
 live-fits-requires c κs = search needs
 
--- src/check.rt:95:9
 returns-2 : tie.Need-returns-2
-returns-2 c = ?
+unfolding fieldsFit
+returns-2 c =
+    let start = c .before .before .before .before in
+    simp (
+      lt-ltb (start .args .f .node) (start .args .nodes) (omega arith),
+      sym (c .before .live-fits .ensures) ∙ not-true (c .before .live-fits .result) (c .if2 .taken),
+    )
 
--- src/check.rt:97:5
 kind-fits-requires : tie.Need-kind-fits-requires
 kind-fits-requires c κs = search needs
 
--- src/check.rt:88:1
 returns-3 : tie.Need-returns-3
-returns-3 c = ?
+unfolding fieldsFit
+returns-3 c =
+    let live = c .before in
+    let start = live .before .before .before .before in
+    c .kind-fits .ensures
+    ∙ simp (
+      lt-ltb (start .args .f .node) (start .args .nodes) (omega arith),
+      sym (live .before .live-fits .ensures) ∙ not-false (live .before .live-fits .result) (live .if2 .left),
+    )
 
 pub fields-fit-spec : {M : Type 1} → statement M
 fields-fit-spec =

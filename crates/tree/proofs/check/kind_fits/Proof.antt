@@ -1,34 +1,52 @@
+-- `tree::check::kind_fits` meets its contract. Assumes nothing.
+use mathlib.Core.Path.{ap, _∙_}
+use borrow.Author.Tests.{eq-eqb, ne-eqb}
 use borrow.Author.Needs.{needs}
+use Rattle.protocol.specs.Numbers.{standard, enumeration}
+use Rattle.protocol.specs.Bytes.{atMost}
+use Rattle.tree.specs.Check.{kindFits}
 use Rattle.tree.proofs.check.kind_fits.Statement.{statement}
 use Rattle.tree.proofs.check.kind_fits.Tie as tie
-use Rattle.tree.proofs.check.kind_fits.Reads as reads
-use Rattle.tree.proofs.check.kind_fits.Lts as lts
-use Rattle.tree.proofs.record.Fields.is_signed.Reads as is-signed-reads
-use Rattle.tree.proofs.record.at_most.Reads as at-most-reads
 
--- src/check.rt:63:32
 is-signed-requires : tie.Need-is-signed-requires
 is-signed-requires c κs = search needs
 
--- src/check.rt:63:9
 at-most-requires : tie.Need-at-most-requires
 at-most-requires c κs = search needs
 
--- src/check.rt:63:9
 returns : tie.Need-returns
-returns c = ?
+unfolding kindFits
+returns c =
+    let f = c .before .before .before .before .args .f in
+    c .at-most .ensures
+    ∙ ap (λ s. atMost s (f .min) (f .max)) (c .before .is-signed .ensures)
+    ∙ simp (eq-eqb (f .kind) standard (c .before .before .if1 .taken))
 
--- src/check.rt:66:9
 returns-2 : tie.Need-returns-2
-returns-2 c = ?
+unfolding kindFits
+returns-2 c =
+    let f = c .before .before .before .before .args .f in
+    simp (ne-eqb (f .kind) standard (c .before .before .if1 .left), ne-eqb (f .kind) enumeration (c .if2 .taken))
 
--- src/check.rt:69:9
 returns-3 : tie.Need-returns-3
-returns-3 c = ?
+unfolding kindFits
+returns-3 c =
+    let f = c .before .before .before .before .before .before .args .f in
+    simp (
+      ne-eqb (f .kind) standard (c .before .before .before .before .if1 .left),
+      eq-eqb (f .kind) enumeration (c .before .before .if2 .left),
+      ne-eqb (f .min) 0 (c .if3 .taken),
+    )
 
--- src/check.rt:59:1
 returns-4 : tie.Need-returns-4
-returns-4 c = ?
+unfolding kindFits
+returns-4 c =
+    let f = c .before .before .before .before .before .before .before .args .f in
+    simp (
+      ne-eqb (f .kind) standard (c .before .before .before .before .before .if1 .left),
+      eq-eqb (f .kind) enumeration (c .before .before .before .if2 .left),
+      eq-eqb (f .min) 0 (c .before .if3 .left),
+    )
 
 pub kind-fits-spec : {M : Type 1} → statement M
 kind-fits-spec =

@@ -1,60 +1,64 @@
+-- `tree::check::labels_end` meets its contract. Assumes nothing.
+use Prim.Native.Nat.{_-_}
+use native.Mathlib.Omega.{arith}
+use mathlib.Core.Path.{sym, _∙_}
+use borrow.Author.Needs.{needs}
+use Rattle.tree.specs.Form.{propertySize, propertiesStart}
+use Rattle.tree.specs.Seen.{nodeCount, propertyCount}
+use Rattle.tree.specs.Check.{propertyEnd}
+use Rattle.tree.proofs.StepLaws.{Going, go-begins, go-on, go-fails, go-ends, property-within}
 use Rattle.tree.proofs.check.labels_end.Statement.{statement}
 use Rattle.tree.proofs.check.labels_end.Tie as tie
-use Rattle.tree.proofs.check.labels_end.Reads as reads
-use Rattle.tree.proofs.check.labels_end.Lts as lts
-use Rattle.tree.proofs.bytes.byte_at.Reads as byte-at-reads
-use Rattle.tree.proofs.bytes.wide.Reads as wide-reads
-use Rattle.tree.proofs.check.property_end.Reads as property-end-reads
 
 abbrev Inv-loop : tie.InvT-loop
-Inv-loop tree start properties at₀ k₀ at k = ?
+Inv-loop tree start properties at₀ k₀ at k = Going propertySize (propertyEnd tree) tree (propertiesStart (nodeCount tree)) start (propertyCount tree) properties at k
 
 abbrev μ-loop : tie.MeasureT-loop
-μ-loop tree start properties at₀ k₀ at k = ?
+μ-loop tree start properties at₀ k₀ at k = properties - k
 
--- src/check.rt:124:34
 byte-at-requires : tie.Need-byte-at-requires Inv-loop μ-loop
-byte-at-requires c κs = ?
+byte-at-requires c κs = search needs
 
--- src/check.rt:124:9
 wide-requires : tie.Need-wide-requires Inv-loop μ-loop
-wide-requires c κs = ?
+wide-requires c κs = search needs
 
--- src/check.rt:127:5
 loop-holds : tie.Need-loop-holds Inv-loop μ-loop
-loop-holds c = ?
+loop-holds c =
+    let start = c .before .before .before in
+    go-begins (c .wide .ensures ∙ c .before .byte-at .ensures) (start .pre)
 
--- src/check.rt:128:31
 property-end-requires : tie.Need-property-end-requires Inv-loop μ-loop
-property-end-requires c κs = ?
+property-end-requires c κs = (omega (arith, c .before .loop .inv .count), c .before .loop .inv .inside)
 
--- src/check.rt:128:23
 enum-known-next : tie.Need-enum-known-next Inv-loop μ-loop
-enum-known-next c = ?
+enum-known-next c = search needs
 
--- src/check.rt:129:13
 enum-told : tie.Need-enum-told Inv-loop μ-loop
-enum-told c = ?
+enum-told c = search needs
 
--- src/check.rt:129:13
 returns : tie.Need-returns Inv-loop μ-loop
-returns c = ?
+returns c =
+    let loop = c .before .before .before .before in
+    go-fails (loop .loop .inv) (c .before .before .before .loop-test .taken)
+    (sym (c .enum-told .given .1) ∙ c .before .before .property-end .ensures)
 
--- src/check.rt:132:9
 add-k : tie.Need-add-k Inv-loop μ-loop
-add-k c = ?
+add-k c = omega arith
 
--- src/check.rt:127:5
 loop-less : tie.Need-loop-less Inv-loop μ-loop
-loop-less c = ?
+loop-less c = omega arith
 
--- src/check.rt:127:5
 loop-again : tie.Need-loop-again Inv-loop μ-loop
-loop-again c = ?
+loop-again c =
+    let loop = c .before .before .before .before .before in
+    go-on (loop .loop .inv) (c .before .before .before .before .loop-test .taken)
+    (property-within _ _ _ (loop .loop .inv .inside))
+    (sym (c .before .next .given .1) ∙ c .before .before .before .property-end .ensures)
 
--- src/check.rt:120:1
 returns-2 : tie.Need-returns-2 Inv-loop μ-loop
-returns-2 c = ?
+returns-2 c =
+    let loop = c .before in
+    go-ends (loop .loop .inv) (c .loop-test .left)
 
 pub labels-end-spec : {M : Type 1} → statement M
 labels-end-spec =

@@ -1,35 +1,44 @@
+-- `tree::check::live_fits` meets its contract. Assumes nothing.
+use mathlib.Core.Path.{refl, sym, _∙_}
+use borrow.Author.Tests.{not-true, not-false}
 use borrow.Author.Needs.{needs}
+use Rattle.tree.specs.Lent.{numbersOf}
+use Rattle.tree.proofs.StepLaws.{live-by}
 use Rattle.tree.proofs.check.live_fits.Statement.{statement}
 use Rattle.tree.proofs.check.live_fits.Tie as tie
-use Rattle.tree.proofs.check.live_fits.Reads as reads
-use Rattle.tree.proofs.check.live_fits.Lts as lts
-use Rattle.tree.proofs.record.Fields.can_read.Reads as can-read-reads
-use Rattle.tree.proofs.record.Fields.can_write.Reads as can-write-reads
-use Rattle.tree.proofs.record.Fields.is_live.Reads as is-live-reads
 
--- src/check.rt:78:9
 is-live-requires : tie.Need-is-live-requires
 is-live-requires c κs = search needs
 
--- src/check.rt:79:9
 returns : tie.Need-returns
-returns c = ?
+returns c =
+    let start = c .before .before in
+    live-by (numbersOf (start .args .f)) (sym (c .before .is-live .ensures) ∙ not-true (c .before .is-live .result) (c .if1 .taken)) refl refl
 
--- src/check.rt:81:9
 can-read-requires : tie.Need-can-read-requires
 can-read-requires c κs = search needs
 
--- src/check.rt:82:9
 returns-2 : tie.Need-returns-2
-returns-2 c = ?
+returns-2 c =
+    let live = c .before .before in
+    let start = live .before .before in
+    live-by (numbersOf (start .args .f))
+    (sym (live .before .is-live .ensures) ∙ not-false (live .before .is-live .result) (live .if1 .left))
+    (sym (c .before .can-read .ensures) ∙ not-true (c .before .can-read .result) (c .if2 .taken))
+    refl
 
--- src/check.rt:84:6
 can-write-requires : tie.Need-can-write-requires
 can-write-requires c κs = search needs
 
--- src/check.rt:75:1
 returns-3 : tie.Need-returns-3
-returns-3 c = ?
+returns-3 c =
+    let reads = c .before in
+    let live = reads .before .before in
+    let start = live .before .before in
+    live-by (numbersOf (start .args .f))
+    (sym (live .before .is-live .ensures) ∙ not-false (live .before .is-live .result) (live .if1 .left))
+    (sym (reads .before .can-read .ensures) ∙ not-false (reads .before .can-read .result) (reads .if2 .left))
+    (sym (c .can-write .ensures))
 
 pub live-fits-spec : {M : Type 1} → statement M
 live-fits-spec =

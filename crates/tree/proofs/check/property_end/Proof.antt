@@ -1,92 +1,133 @@
+-- `tree::check::property_end` meets its contract. Assumes nothing.
+use Prim.Native.Nat.{_+_, _*_}
+use native.Mathlib.Omega.{arith}
+use mathlib.Core.Path.{_≡_, sym, ap, _∙_}
+use borrow.Author.Tests.{not-true, not-false}
 use borrow.Author.Needs.{needs}
+use Rattle.protocol.specs.Numbers.{maxTexts}
+use Rattle.tree.specs.Form.{propertySize, propertiesStart}
+use Rattle.tree.specs.Seen.{halfAt, nodeCount}
+use Rattle.tree.specs.Check.{textsEndIn, nameRoom}
+use Rattle.tree.specs.Lent.{foundOf}
+use Rattle.tree.proofs.TextLaws.{texts-within}
+use Rattle.tree.proofs.StepLaws.{found-at, property-unfit, property-elsewhere, property-unnamed, property-ends}
 use Rattle.tree.proofs.check.property_end.Statement.{statement}
 use Rattle.tree.proofs.check.property_end.Tie as tie
-use Rattle.tree.proofs.check.property_end.Reads as reads
-use Rattle.tree.proofs.check.property_end.Lts as lts
-use Rattle.tree.proofs.bytes.byte_at.Reads as byte-at-reads
-use Rattle.tree.proofs.bytes.half_at.Reads as half-at-reads
-use Rattle.tree.proofs.bytes.wide.Reads as wide-reads
-use Rattle.tree.proofs.check.fields_fit.Reads as fields-fit-reads
-use Rattle.tree.proofs.record.option_count.Reads as option-count-reads
-use Rattle.tree.proofs.record.properties_start.Reads as properties-start-reads
-use Rattle.tree.proofs.record.read_fields.Reads as read-fields-reads
-use Rattle.tree.proofs.texts.texts_end.Reads as texts-end-reads
 
--- src/check.rt:105:9
+-- Where the record says that its texts begin.
+half-is : (m : tie.After-half-at)
+    → m .half-at .result
+    ≡ halfAt
+    (propertiesStart (nodeCount (m .before .before .before .before .before .before .before .before .args .tree .now))
+    + m .before .before .before .before .before .before .before .before .args .k * propertySize
+    + 14)
+    (m .before .before .before .before .before .before .before .before .args .tree .now)
+half-is m =
+    let start = m .before .before .before .before .before .before .before .before in
+    m .half-at .ensures
+    ∙ ap (λ n. halfAt (n + start .args .k * propertySize + 14) (start .args .tree .now)) (m .before .properties-start .ensures)
+
 read-fields-requires : tie.Need-read-fields-requires
 read-fields-requires c κs = search needs
 
--- src/check.rt:106:32
 byte-at-requires : tie.Need-byte-at-requires
 byte-at-requires c κs = search needs
 
--- src/check.rt:106:20
 wide-requires : tie.Need-wide-requires
 wide-requires c κs = search needs
 
--- src/check.rt:106:9
 fields-fit-requires : tie.Need-fields-fit-requires
 fields-fit-requires c κs = search needs
 
--- src/check.rt:107:9
 returns : tie.Need-returns
-returns c = ?
+returns c =
+    let fit = c .before in
+    let count = fit .before in
+    let start = count .before .before .before .before in
+    property-unfit (start .args .tree .now) (start .args .k) (start .args .at)
+    (count .wide .ensures ∙ count .before .byte-at .ensures) (start .pre .0) (count .before .before .read-fields .ensures)
+    (sym (fit .fields-fit .ensures) ∙ not-true (fit .fields-fit .result) (c .if1 .taken))
 
--- src/check.rt:109:17
 properties-start-requires : tie.Need-properties-start-requires
 properties-start-requires c κs = search needs
 
--- src/check.rt:109:50
 mul-place : tie.Need-mul-place
-mul-place c = ?
+mul-place c = omega (arith, c .before .before .before .before .before .before .shared-slice-known .given 1)
 
--- src/check.rt:109:17
 add-place : tie.Need-add-place
-add-place c = ?
+add-place c =
+    let known = c .before .before .before .before .before .before .shared-slice-known .given in
+    omega (arith, c .properties-start .ensures, known 0, known 1)
 
--- src/check.rt:109:17
 add-place-2 : tie.Need-add-place-2
-add-place-2 c = ?
+add-place-2 c =
+    let known = c .before .before .before .before .before .before .shared-slice-known .given in
+    omega (arith, c .properties-start .ensures, known 0, known 1)
 
--- src/check.rt:110:8
 half-at-requires : tie.Need-half-at-requires
-half-at-requires c κs = ?
+half-at-requires c κs =
+    let known = c .before .before .before .before .before .before .shared-slice-known .given in
+    omega (arith, c .properties-start .ensures, known 0, known 1)
 
--- src/check.rt:110:8
 cast-if2 : tie.Need-cast-if2
 cast-if2 c = search needs
 
--- src/check.rt:111:9
 returns-2 : tie.Need-returns-2
-returns-2 c = ?
+returns-2 c =
+    let fit = c .before .before .before .before in
+    let count = fit .before in
+    let start = count .before .before .before .before in
+    property-elsewhere (start .args .tree .now) (start .args .k) (start .args .at)
+    (count .wide .ensures ∙ count .before .byte-at .ensures) (start .pre .0) (count .before .before .read-fields .ensures)
+    (λ e. c .if2 .taken (half-is (c .before) ∙ e))
 
--- src/check.rt:113:26
 texts-end-requires : tie.Need-texts-end-requires
 texts-end-requires c κs = search needs
 
--- src/check.rt:113:19
 enum-known-mid : tie.Need-enum-known-mid
 enum-known-mid c = search needs
 
--- src/check.rt:114:9
 enum-told : tie.Need-enum-told
 enum-told c = search needs
 
--- src/check.rt:114:9
 returns-3 : tie.Need-returns-3
-returns-3 c = ?
+returns-3 c =
+    let named = c .before .before in
+    let here = named .before in
+    let fit = c .before .before .before .before .before .before .before in
+    let count = fit .before in
+    let start = count .before .before .before .before in
+    property-unnamed (start .args .tree .now) (start .args .k) (start .args .at)
+    (count .wide .ensures ∙ count .before .byte-at .ensures) (start .pre .0) (count .before .before .read-fields .ensures)
+    (sym (fit .fields-fit .ensures) ∙ not-false (fit .fields-fit .result) (here .before .before .before .if1 .left))
+    (sym (half-is (here .before)) ∙ here .if2 .left)
+    (sym (c .enum-told .given .1) ∙ named .texts-end .ensures)
 
--- src/check.rt:116:33
 option-count-requires : tie.Need-option-count-requires
 option-count-requires c κs = search needs
 
--- src/check.rt:116:5
 texts-end-requires-2 : tie.Need-texts-end-requires-2
-texts-end-requires-2 c κs = ?
+texts-end-requires-2 c κs =
+    let named = c .before .before .before .before in
+    let start = named .before .before .before .before .before .before .before .before .before .before in
+    texts-within (start .args .tree .now) nameRoom 1 (start .args .at) (start .pre .1)
+    (found-at (textsEndIn (start .args .tree .now) nameRoom 1 (start .args .at))
+    (sym (c .before .before .mid .given .1) ∙ named .texts-end .ensures))
 
--- src/check.rt:101:1
 returns-4 : tie.Need-returns-4
-returns-4 c = ?
+returns-4 c =
+    let told = c .before .before .before in
+    let named = told .before .before in
+    let here = named .before in
+    let fit = c .before .before .before .before .before .before .before .before .before .before in
+    let count = fit .before in
+    let start = count .before .before .before .before in
+    property-ends (start .args .tree .now) (start .args .k) (start .args .at)
+    (count .wide .ensures ∙ count .before .byte-at .ensures) (start .pre .0) (count .before .before .read-fields .ensures)
+    (sym (fit .fields-fit .ensures) ∙ not-false (fit .fields-fit .result) (here .before .before .before .if1 .left))
+    (sym (half-is (here .before)) ∙ here .if2 .left)
+    (sym (told .mid .given .1) ∙ named .texts-end .ensures)
+    (c .texts-end2 .ensures ∙ ap (λ n. foundOf (textsEndIn (start .args .tree .now) maxTexts n (told .mid .given .0 .0))) (c .before .option-count .ensures))
 
 pub property-end-spec : {M : Type 1} → statement M
 property-end-spec =

@@ -1,99 +1,96 @@
+-- `tree::parents::parents_sound` meets its contract. Assumes nothing.
+use Prim.Native.Nat.{_-_}
+use native.Mathlib.Omega.{arith}
+use mathlib.Core.Path.{refl, sym, _∙_}
+use borrow.Author.Needs.{needs}
+use Rattle.tree.proofs.ParentLaws.{Descending, too-many, no-device, device-elsewhere, descend-begins, descend-behind, descend-deep, descend-on, descend-ends}
 use Rattle.tree.proofs.parents.parents_sound.Statement.{statement}
 use Rattle.tree.proofs.parents.parents_sound.Tie as tie
-use Rattle.tree.proofs.parents.parents_sound.Reads as reads
-use Rattle.tree.proofs.parents.parents_sound.Lts as lts
-use Rattle.tree.proofs.bytes.byte_at.Reads as byte-at-reads
-use Rattle.tree.proofs.bytes.wide.Reads as wide-reads
 
 abbrev Inv-loop : tie.InvT-loop
-Inv-loop tree nodes depths₀ k₀ depths k = ?
+Inv-loop tree nodes depths₀ k₀ depths k = Descending tree nodes depths k
 
 abbrev μ-loop : tie.MeasureT-loop
-μ-loop tree nodes depths₀ k₀ depths k = ?
+μ-loop tree nodes depths₀ k₀ depths k = nodes - k
 
--- src/parents.rt:17:29
 byte-at-requires : tie.Need-byte-at-requires Inv-loop μ-loop
-byte-at-requires c κs = ?
+byte-at-requires c κs = search needs
 
--- src/parents.rt:17:9
 wide-requires : tie.Need-wide-requires Inv-loop μ-loop
-wide-requires c κs = ?
+wide-requires c κs = search needs
 
--- src/parents.rt:19:9
 returns : tie.Need-returns Inv-loop μ-loop
-returns c = ?
+returns c = too-many (c .before .before .before .before .args .tree .now) (omega arith)
 
--- src/parents.rt:22:9
 returns-2 : tie.Need-returns-2 Inv-loop μ-loop
-returns-2 c = ?
+returns-2 c = no-device (c .before .before .before .before .before .args .tree .now) (omega arith)
 
--- src/parents.rt:24:8
 byte-at-requires-2 : tie.Need-byte-at-requires-2 Inv-loop μ-loop
-byte-at-requires-2 c κs = ?
+byte-at-requires-2 c κs = search needs
 
--- src/parents.rt:25:9
 returns-3 : tie.Need-returns-3 Inv-loop μ-loop
-returns-3 c = ?
+returns-3 c =
+    device-elsewhere (c .before .before .before .before .before .before .before .args .tree .now) (omega arith) (omega arith)
+    (λ e. c .if3 .taken (c .before .byte-at2 .ensures ∙ e))
 
--- src/parents.rt:28:5
 array-write-depths : tie.Need-array-write-depths Inv-loop μ-loop
-array-write-depths c = ?
+array-write-depths c = search needs
 
--- src/parents.rt:30:5
 loop-holds : tie.Need-loop-holds Inv-loop μ-loop
-loop-holds c = ?
+loop-holds c =
+    descend-begins
+    (c .before .before .before .before .wide .ensures ∙ c .before .before .before .before .before .byte-at .ensures)
+    (omega arith) (omega arith) (sym (c .before .byte-at2 .ensures) ∙ c .if3 .left) refl refl
 
--- src/parents.rt:31:59
 mul-byte-at : tie.Need-mul-byte-at Inv-loop μ-loop
-mul-byte-at c = ?
+mul-byte-at c = omega arith
 
--- src/parents.rt:31:55
 add-byte-at : tie.Need-add-byte-at Inv-loop μ-loop
-add-byte-at c = ?
+add-byte-at c = omega arith
 
--- src/parents.rt:31:34
 byte-at-requires-3 : tie.Need-byte-at-requires-3 Inv-loop μ-loop
-byte-at-requires-3 c κs = ?
+byte-at-requires-3 c κs = search needs
 
--- src/parents.rt:31:13
 wide-requires-2 : tie.Need-wide-requires-2 Inv-loop μ-loop
-wide-requires-2 c κs = ?
+wide-requires-2 c κs = search needs
 
--- src/parents.rt:33:13
 returns-4 : tie.Need-returns-4 Inv-loop μ-loop
-returns-4 c = ?
+returns-4 c =
+    let loop = c .before .before .before .before in
+    descend-behind (loop .loop .inv) (c .before .before .before .loop-test .taken)
+    (c .before .wide2 .ensures ∙ c .before .before .byte-at3 .ensures) (c .if4 .taken)
 
--- src/parents.rt:35:21
 array-read-depth : tie.Need-array-read-depth Inv-loop μ-loop
-array-read-depth c = ?
+array-read-depth c = omega arith
 
--- src/parents.rt:37:13
 returns-5 : tie.Need-returns-5 Inv-loop μ-loop
-returns-5 c = ?
+returns-5 c =
+    let loop = c .before .before .before .before .before in
+    descend-deep (loop .loop .inv) (c .before .before .before .before .loop-test .taken)
+    (c .before .before .wide2 .ensures ∙ c .before .before .before .byte-at3 .ensures) (c .before .if4 .left) (c .if5 .taken)
 
--- src/parents.rt:39:21
 add-depths : tie.Need-add-depths Inv-loop μ-loop
-add-depths c = ?
+add-depths c = omega arith
 
--- src/parents.rt:39:9
 array-write-depths-2 : tie.Need-array-write-depths-2 Inv-loop μ-loop
-array-write-depths-2 c = ?
+array-write-depths-2 c = omega arith
 
--- src/parents.rt:40:9
 add-k : tie.Need-add-k Inv-loop μ-loop
-add-k c = ?
+add-k c = omega arith
 
--- src/parents.rt:30:5
 loop-less : tie.Need-loop-less Inv-loop μ-loop
-loop-less c = ?
+loop-less c = omega arith
 
--- src/parents.rt:30:5
 loop-again : tie.Need-loop-again Inv-loop μ-loop
-loop-again c = ?
+loop-again c =
+    let loop = c .before .before .before .before .before in
+    descend-on (loop .loop .inv) (c .before .before .before .before .loop-test .taken)
+    (c .before .before .wide2 .ensures ∙ c .before .before .before .byte-at3 .ensures) (c .before .if4 .left) (c .if5 .left)
 
--- src/parents.rt:14:1
 returns-6 : tie.Need-returns-6 Inv-loop μ-loop
-returns-6 c = ?
+returns-6 c =
+    let loop = c .before in
+    descend-ends (loop .loop .inv) (c .loop-test .left)
 
 pub parents-sound-spec : {M : Type 1} → statement M
 parents-sound-spec =

@@ -1,64 +1,61 @@
+-- `tree::texts::put_texts` meets its contract. Assumes nothing.
+use Prim.Native.Nat.{_-_}
+use native.Mathlib.Omega.{arith}
+use borrow.Author.Needs.{needs}
+use lib.ListN.{length}
+use Rattle.tree.proofs.TextLaws.{Copying, copy-begins, copy-more, copy-full, copy-ends}
 use Rattle.tree.proofs.texts.put_texts.Statement.{statement}
 use Rattle.tree.proofs.texts.put_texts.Tie as tie
-use Rattle.tree.proofs.texts.put_texts.Reads as reads
-use Rattle.tree.proofs.texts.put_texts.Lts as lts
-use Rattle.tree.proofs.bytes.byte_at.Reads as byte-at-reads
-use Rattle.tree.proofs.texts.after.Reads as after-reads
-use Rattle.tree.proofs.texts.left_after.Reads as left-after-reads
 
 abbrev Inv-loop : tie.InvT-loop
-Inv-loop tree from count out₀ at left₀ next₀ i₀ out left next i = ?
+Inv-loop tree from count out₀ at left₀ next₀ i₀ out left next i = Copying tree from count out₀ at out left next i
 
 abbrev μ-loop : tie.MeasureT-loop
-μ-loop tree from count out₀ at left₀ next₀ i₀ out left next i = ?
+μ-loop tree from count out₀ at left₀ next₀ i₀ out left next i = length out₀ - next
 
--- src/texts.rt:78:5
 loop-holds : tie.Need-loop-holds Inv-loop μ-loop
-loop-holds c = ?
+loop-holds c =
+    copy-begins
 
--- src/texts.rt:80:13
 same-length : tie.Need-same-length Inv-loop μ-loop
-same-length c = ?
+same-length c = c .before .before .loop .inv .size
 
--- src/texts.rt:80:13
 returns : tie.Need-returns Inv-loop μ-loop
-returns c = ?
+returns c =
+    let in-loop = c .before in
+    copy-ends (in-loop .before .loop .inv) (c .if1 .taken)
 
--- src/texts.rt:82:13
 byte-at-requires : tie.Need-byte-at-requires Inv-loop μ-loop
-byte-at-requires c κs = ?
+byte-at-requires c κs = search needs
 
--- src/texts.rt:83:9
 slice-write-out : tie.Need-slice-write-out Inv-loop μ-loop
-slice-write-out c = ?
+slice-write-out c = omega arith
 
--- src/texts.rt:84:9
 add-next : tie.Need-add-next Inv-loop μ-loop
-add-next c = ?
+add-next c = omega arith
 
--- src/texts.rt:85:9
 after-requires : tie.Need-after-requires Inv-loop μ-loop
-after-requires c κs = ?
+after-requires c κs = search needs
 
--- src/texts.rt:86:9
 left-after-requires : tie.Need-left-after-requires Inv-loop μ-loop
-left-after-requires c κs = ?
+left-after-requires c κs = omega arith
 
--- src/texts.rt:78:5
 loop-less : tie.Need-loop-less Inv-loop μ-loop
-loop-less c = ?
+loop-less c = omega arith
 
--- src/texts.rt:78:5
 loop-again : tie.Need-loop-again Inv-loop μ-loop
-loop-again c = ?
+loop-again c =
+    let in-loop = c .before .before .before .before in
+    copy-more (in-loop .before .loop .inv) (in-loop .loop-test .taken) (omega arith)
+    (c .before .before .byte-at .ensures) (c .left-after .ensures) (c .before .after .ensures)
 
--- src/texts.rt:72:1
 same-length-2 : tie.Need-same-length-2 Inv-loop μ-loop
-same-length-2 c = ?
+same-length-2 c = c .before .loop .inv .size
 
--- src/texts.rt:72:1
 returns-2 : tie.Need-returns-2 Inv-loop μ-loop
-returns-2 c = ?
+returns-2 c =
+    let in-loop = c in
+    copy-full (in-loop .before .loop .inv) (in-loop .loop-test .left)
 
 pub put-texts-spec : {M : Type 1} → statement M
 put-texts-spec =

@@ -1,32 +1,45 @@
+-- `tree::texts::step_on` meets its contract. Assumes nothing.
+use borrow.Author.Tests.{eq-eqb, ne-eqb, le-leb, lt-leb}
 use borrow.Author.Needs.{needs}
+use Rattle.protocol.specs.Numbers.{firstCharacter, lastCharacter}
+use Rattle.tree.specs.Check.{stepOf}
 use Rattle.tree.proofs.texts.step_on.Statement.{statement}
 use Rattle.tree.proofs.texts.step_on.Tie as tie
-use Rattle.tree.proofs.texts.step_on.Reads as reads
-use Rattle.tree.proofs.texts.step_on.Lts as lts
 
--- src/texts.rt:25:13
 returns : tie.Need-returns
-returns c = ?
+unfolding stepOf
+returns c = simp (eq-eqb (c .before .before .args .b) 0 (c .before .if1 .taken), le-leb (c .before .before .args .left) 1 (c .if2 .taken))
 
--- src/texts.rt:27:25
 sub-t5 : tie.Need-sub-t5
 sub-t5 c = search needs
 
--- src/texts.rt:27:9
 returns-2 : tie.Need-returns-2
-returns-2 c = ?
+unfolding stepOf
+returns-2 c = simp (eq-eqb (c .before .before .args .b) 0 (c .before .if1 .taken), lt-leb (c .before .before .args .left) 1 (c .if2 .left))
 
--- src/texts.rt:30:9
 returns-3 : tie.Need-returns-3
-returns-3 c = ?
+unfolding stepOf
+returns-3 c = simp (ne-eqb (c .before .before .args .b) 0 (c .before .if1 .left), lt-leb firstCharacter (c .before .before .args .b) (c .if3 .taken))
 
--- src/texts.rt:33:9
 returns-4 : tie.Need-returns-4
-returns-4 c = ?
+unfolding stepOf
+returns-4 c =
+    let b = c .before .before .before .args .b in
+    simp (
+      ne-eqb b 0 (c .before .before .if1 .left),
+      le-leb firstCharacter b (c .before .if3 .left),
+      lt-leb b lastCharacter (c .if4 .taken),
+    )
 
--- src/texts.rt:20:1
 returns-5 : tie.Need-returns-5
-returns-5 c = ?
+unfolding stepOf
+returns-5 c =
+    let b = c .before .before .before .args .b in
+    simp (
+      ne-eqb b 0 (c .before .before .if1 .left),
+      le-leb firstCharacter b (c .before .if3 .left),
+      le-leb b lastCharacter (c .if4 .left),
+    )
 
 pub step-on-spec : {M : Type 1} → statement M
 step-on-spec = tie.close (tie.spec returns sub-t5 returns-2 returns-3 returns-4 returns-5)

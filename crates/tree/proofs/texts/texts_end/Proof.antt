@@ -1,67 +1,73 @@
+-- `tree::texts::texts_end` meets its contract. Assumes nothing.
+use Prim.Native.Nat.{_-_}
+use native.Mathlib.Omega.{arith}
+use mathlib.Core.Path.{sym, _∙_}
+use borrow.Author.Needs.{needs}
+use Rattle.tree.proofs.TextLaws.{Scanning, scan-begins, scan-on, scan-ended, scan-bad, scan-out}
 use Rattle.tree.proofs.texts.texts_end.Statement.{statement}
 use Rattle.tree.proofs.texts.texts_end.Tie as tie
-use Rattle.tree.proofs.texts.texts_end.Reads as reads
-use Rattle.tree.proofs.texts.texts_end.Lts as lts
-use Rattle.tree.proofs.texts.end_of_room.Reads as end-of-room-reads
-use Rattle.tree.proofs.texts.step_on.Reads as step-on-reads
 
 abbrev Inv-loop : tie.InvT-loop
-Inv-loop tree from count room end left₀ at₀ left at = ?
+Inv-loop tree from count room end left₀ at₀ left at = Scanning tree from count room end left at
 
 abbrev μ-loop : tie.MeasureT-loop
-μ-loop tree from count room end left₀ at₀ left at = ?
+μ-loop tree from count room end left₀ at₀ left at = end - at
 
--- src/texts.rt:54:9
 end-of-room-requires : tie.Need-end-of-room-requires Inv-loop μ-loop
-end-of-room-requires c κs = ?
+end-of-room-requires c κs = search needs
 
--- src/texts.rt:57:5
 loop-holds : tie.Need-loop-holds Inv-loop μ-loop
-loop-holds c = ?
+loop-holds c =
+    let start = c .before .before in
+    scan-begins (start .pre) (c .end-of-room .ensures)
 
--- src/texts.rt:58:17
 shared-slice-read-b : tie.Need-shared-slice-read-b Inv-loop μ-loop
-shared-slice-read-b c = ?
+shared-slice-read-b c = omega arith
 
--- src/texts.rt:59:9
 add-at : tie.Need-add-at Inv-loop μ-loop
-add-at c = ?
+add-at c = omega arith
 
--- src/texts.rt:60:15
 step-on-requires : tie.Need-step-on-requires Inv-loop μ-loop
-step-on-requires c κs = ?
+step-on-requires c κs = search needs
 
--- src/texts.rt:61:22
 enum-known-next : tie.Need-enum-known-next Inv-loop μ-loop
-enum-known-next c = ?
+enum-known-next c = search needs
 
--- src/texts.rt:57:5
 loop-less : tie.Need-loop-less Inv-loop μ-loop
-loop-less c = ?
+loop-less c = omega arith
 
--- src/texts.rt:57:5
 loop-again : tie.Need-loop-again Inv-loop μ-loop
-loop-again c = ?
+loop-again c =
+    let told = c .before in
+    let m = told .before .before in
+    let in-loop = m .before .before in
+    scan-on (in-loop .before .loop .inv) (in-loop .loop-test .taken)
+    (sym (told .next .given .1) ∙ m .step-on .ensures)
 
--- src/texts.rt:64:28
 enum-told : tie.Need-enum-told Inv-loop μ-loop
-enum-told c = ?
+enum-told c = search needs
 
--- src/texts.rt:64:28
 returns : tie.Need-returns Inv-loop μ-loop
-returns c = ?
+returns c =
+    let m = c .before .before in
+    let in-loop = m .before .before in
+    scan-ended (in-loop .before .loop .inv) (in-loop .loop-test .taken)
+    (sym (c .enum-told .given .1) ∙ m .step-on .ensures)
 
--- src/texts.rt:65:26
 enum-told-2 : tie.Need-enum-told-2 Inv-loop μ-loop
-enum-told-2 c = ?
+enum-told-2 c = search needs
 
--- src/texts.rt:65:26
 returns-2 : tie.Need-returns-2 Inv-loop μ-loop
-returns-2 c = ?
+returns-2 c =
+    let m = c .before .before in
+    let in-loop = m .before .before in
+    scan-bad (in-loop .before .loop .inv) (in-loop .loop-test .taken)
+    (sym (c .enum-told2 .given .1) ∙ m .step-on .ensures)
 
--- src/texts.rt:50:1
 returns-3 : tie.Need-returns-3 Inv-loop μ-loop
-returns-3 c = ?
+returns-3 c =
+    let in-loop = c in
+    scan-out (in-loop .before .loop .inv) (in-loop .loop-test .left)
 
 pub texts-end-spec : {M : Type 1} → statement M
 texts-end-spec =

@@ -1,0 +1,329 @@
+-- Records checked one after the other, each from where the texts of the one before ended.
+-- Assumes nothing.
+use Prim.Native.Nat.{ℕ, zero, suc, _+_, _-_, _*_, _<_, _≤_}
+use native.Mathlib.Omega.{arith}
+use native.Mathlib.Nat.{zero-mul, suc-mul, sub-zero, add-zero, add-assoc}
+use native.Mathlib.Numerals.{add-one}
+use mathlib.Core.Path.{_≡_, refl, sym, ap, ap₂, subst, _∙_}
+use mathlib.Core.Bool.{Bool, true, false, cond, not, _&&_, and-false}
+use mathlib.Core.List.{List, [], _∷_}
+use mathlib.Core.Option.{Option, none, some}
+use borrow.Author.Tests.{leb-true, eqb-true, eqb-false, eq-eqb, ne-eqb}
+use lib.ListN.{length, getD, drop}
+use lib.Seq.{drop-drop, getD-drop}
+use lib.Dec.{eqb, leb}
+use Rattle.protocol.specs.Numbers.{done, unsound, maxNodes, maxProperties, maxTexts}
+use Rattle.protocol.specs.Bytes.{number}
+use Rattle.protocol.specs.Tree.{Property, canRead, canWrite, isLive, liveSound, propertyIn}
+use Rattle.protocol.proofs.TestLaws.{and-left, and-right}
+use Rattle.tree.specs.declared.Found.{Found}
+use Rattle.tree.specs.declared.Found.the-variants.{At, Nothing}
+use Rattle.tree.specs.declared.record.Fields.{Fields}
+use Rattle.tree.specs.Form.{nodeSize, propertySize, propertiesStart, textsStart}
+use Rattle.tree.specs.Seen.{halfAt, wordAt, seen, isTree, nodeCount, propertyCount, propertySeen, optionCount}
+use Rattle.tree.specs.Cells.{cellsIn, hasCells}
+use Rattle.tree.specs.Check.{textsEndIn, andThen, nameRoom, nodeEnd, kindFits, fieldsFit, propertyEnd, recordsEnd, lineageSound, parentsIn, countsFit, textsFit, endsAt, checked}
+use Rattle.tree.specs.Lent.{foundOf, FieldsAre, numbersOf, isLent, lentNumber}
+use Rattle.tree.proofs.RecordLaws.{records-length, records-at}
+use Rattle.tree.proofs.TextLaws.{none-some, some-same, texts-within}
+
+-- A place that was found, or none.
+pub found-at : (o : Option ℕ) {place : ℕ} → At place ≡ foundOf o → o ≡ some place
+found-at none h = absurd (let z : _≡_ {A = ℕ} 0 1 = cc in omega arith)
+found-at (some n) h = cc
+
+pub found-none : (o : Option ℕ) → Nothing ≡ foundOf o → o ≡ none
+found-none none h = refl
+found-none (some n) h = absurd (let z : _≡_ {A = ℕ} 0 1 = cc in omega arith)
+
+-- A number of 16 bits in the bytes behind a place.
+half-behind : (n i : ℕ) (bs : List ℕ) {m : ℕ} → n + i ≡ m → halfAt i (drop n bs) ≡ halfAt m bs
+unfolding halfAt
+half-behind n i bs {m} e =
+    ap₂ (λ a b. number (a ∷ b ∷ []))
+    (getD-drop n bs i 0 ∙ ap (λ k. getD bs k 0) e)
+    (getD-drop n bs (i + 1) 0 ∙ ap (λ k. getD bs k 0) (sym (add-assoc n i 1) ∙ ap (λ k. k + 1) e))
+
+-- A node's record: its name lies elsewhere, or here.
+module _ (bs r : List ℕ) (at : ℕ) where
+  node-other : (halfAt 1 r ≡ at → ⊥) → nodeEnd bs r at ≡ none
+  unfolding nodeEnd
+  node-other h = rw (ne-eqb (halfAt 1 r) at h)
+
+  node-here : halfAt 1 r ≡ at → nodeEnd bs r at ≡ textsEndIn bs nameRoom 1 at
+  unfolding nodeEnd
+  node-here h = rw (eq-eqb (halfAt 1 r) at h)
+
+  pub node-within : {next : ℕ} → at ≤ length bs → nodeEnd bs r at ≡ some next → next ≤ length bs
+  node-within {next} h e = go (eqb (halfAt 1 r) at) refl
+    where
+      go : (t : Bool) → eqb (halfAt 1 r) at ≡ t → next ≤ length bs
+      go true q = texts-within bs nameRoom 1 at h (sym (node-here (eqb-true (halfAt 1 r) at q)) ∙ e)
+      go false q = none-some (sym (node-other (eqb-false (halfAt 1 r) at q)) ∙ e)
+
+module _ (bs : List ℕ) (k at : ℕ) where
+  place : 2 + k * nodeSize + 1 ≡ 3 + k * nodeSize
+  place = omega arith
+
+  pub node-elsewhere : (halfAt (3 + k * nodeSize) bs ≡ at → ⊥) → Nothing ≡ foundOf (nodeEnd bs (drop (2 + k * nodeSize) bs) at)
+  node-elsewhere h =
+      sym (ap foundOf (node-other bs (drop (2 + k * nodeSize) bs) at (λ e. h (sym (half-behind (2 + k * nodeSize) 1 bs place) ∙ e))))
+
+  pub node-ends : {x : Found} → halfAt (3 + k * nodeSize) bs ≡ at → x ≡ foundOf (textsEndIn bs nameRoom 1 at)
+      → x ≡ foundOf (nodeEnd bs (drop (2 + k * nodeSize) bs) at)
+  node-ends h e =
+      e ∙ sym (ap foundOf (node-here bs (drop (2 + k * nodeSize) bs) at (half-behind (2 + k * nodeSize) 1 bs place ∙ h)))
+
+-- Records from a place on, of which some are done.
+pub record Going (size : ℕ) (f : List ℕ → ℕ → Option ℕ) (bs : List ℕ) (from start total n at k : ℕ) : Type 0 where
+  pub count : n ≡ total
+  pub within : k ≤ n
+  pub inside : at ≤ length bs
+  pub whole : recordsEnd size f total (drop from bs) start ≡ recordsEnd size f (n - k) (drop (from + k * size) bs) at
+
+module _ {size : ℕ} {f : List ℕ → ℕ → Option ℕ} {bs : List ℕ} {from start total : ℕ} where
+  pub go-begins : {n : ℕ} → n ≡ total → start ≤ length bs → Going size f bs from start total n start 0
+  go-begins {n} e h =
+      record {
+        count = e;
+        within = omega arith;
+        inside = h;
+        whole =
+            ap₂ (λ m i. recordsEnd size f m (drop i bs) start)
+            (sym e ∙ sym (sub-zero n))
+            (sym (ap (λ m. from + m) (zero-mul size) ∙ add-zero from));
+      }
+
+  module _ {n at k : ℕ} (w : Going size f bs from start total n at k) where
+    pub go-ends : n ≤ k → At at ≡ foundOf (recordsEnd size f total (drop from bs) start)
+    unfolding recordsEnd
+    go-ends h =
+        let m : n - k ≡ 0 = omega arith in
+        sym (ap foundOf (w .whole ∙ ap (λ m. recordsEnd size f m (drop (from + k * size) bs) at) m))
+
+    module _ (h : k < n) where
+      here : recordsEnd size f total (drop from bs) start
+          ≡ andThen (f (drop (from + k * size) bs) at) (λ next. recordsEnd size f (n - (k + 1)) (drop (from + (k + 1) * size) bs) next)
+      unfolding recordsEnd
+      here =
+          let m : n - k ≡ suc (n - (k + 1)) = omega arith in
+          let i : from + k * size + size ≡ from + (k + 1) * size =
+          add-assoc from (k * size) size ∙ ap (λ x. from + x) (sym (suc-mul k size) ∙ ap (λ x. x * size) (sym (add-one k))) in
+          w .whole
+          ∙ ap (λ m. recordsEnd size f m (drop (from + k * size) bs) at) m
+          ∙ ap (λ l. andThen (f (drop (from + k * size) bs) at) (λ next. recordsEnd size f (n - (k + 1)) l next))
+          (drop-drop size (from + k * size) bs ∙ ap (λ x. drop x bs) i)
+
+      pub go-fails : Nothing ≡ foundOf (f (drop (from + k * size) bs) at) → Nothing ≡ foundOf (recordsEnd size f total (drop from bs) start)
+      unfolding andThen
+      go-fails e =
+          sym (ap foundOf
+          (here
+          ∙ ap (λ o. andThen o (λ next. recordsEnd size f (n - (k + 1)) (drop (from + (k + 1) * size) bs) next))
+          (found-none (f (drop (from + k * size) bs) at) e)))
+
+      pub go-on : {next : ℕ} → (f (drop (from + k * size) bs) at ≡ some next → next ≤ length bs)
+          → At next ≡ foundOf (f (drop (from + k * size) bs) at) → Going size f bs from start total n next (k + 1)
+      unfolding andThen
+      go-on {next} within e =
+          let is : f (drop (from + k * size) bs) at ≡ some next = found-at (f (drop (from + k * size) bs) at) e in
+          record {
+            count = w .count;
+            within = omega arith;
+            inside = within is;
+            whole =
+                here
+                ∙ ap (λ o. andThen o (λ next. recordsEnd size f (n - (k + 1)) (drop (from + (k + 1) * size) bs) next)) is;
+          }
+
+-- Records end where the bytes do, or before, if each does.
+records-within : (size : ℕ) (f : List ℕ → ℕ → Option ℕ) (most : ℕ)
+    → ((r : List ℕ) (at next : ℕ) → at ≤ most → f r at ≡ some next → next ≤ most)
+    → (n : ℕ) (r : List ℕ) (at : ℕ) {next : ℕ} → at ≤ most → recordsEnd size f n r at ≡ some next → next ≤ most
+unfolding recordsEnd andThen
+records-within size f most g zero r at h e = omega (arith, some-same e)
+records-within size f most g (suc n) r at {next} h e =
+    go (f r at) refl (λ mid q. records-within size f most g n (drop size r) mid q)
+  where
+    go : (o : Option ℕ) → f r at ≡ o
+        → ((mid : ℕ) → mid ≤ most → recordsEnd size f n (drop size r) mid ≡ some next → next ≤ most)
+        → next ≤ most
+    go none q rest = none-some (sym (ap (λ o. andThen o (recordsEnd size f n (drop size r))) q) ∙ e)
+    go (some mid) q rest = rest mid (g r at mid h q) (sym (ap (λ o. andThen o (recordsEnd size f n (drop size r))) q) ∙ e)
+
+-- The property at a place, and its numbers.
+pub property-at : (bs : List ℕ) (k : ℕ) → k < propertyCount bs
+    → propertyIn (seen bs) k ≡ propertySeen bs (drop (propertiesStart (nodeCount bs) + k * propertySize) bs)
+unfolding seen
+property-at bs k h =
+    records-at propertySize (propertySeen bs) (propertyCount bs) (drop (propertiesStart (nodeCount bs)) bs) k
+    (record {
+      node = 0;
+      kind = 0;
+      min = 0;
+      max = 0;
+      attribute = 0;
+      format = 0;
+      label = [];
+      options = [];
+    }) h
+    ∙ ap (propertySeen bs) (drop-drop (k * propertySize) (propertiesStart (nodeCount bs)) bs)
+
+pub live-by : (p : Property) {live reads writes : Bool} → isLive p ≡ live → canRead p ≡ reads → canWrite p ≡ writes
+    → cond live (reads && not writes) true ≡ liveSound p
+unfolding liveSound
+live-by p {live} {reads} e f g =
+    sym (ap₂ (λ l r. cond l (r && not (canWrite p)) true) e f ∙ ap (λ w. cond live (reads && not w) true) g)
+
+pub fields-same : (nodes : ℕ) {p : Property} {f : Fields} → FieldsAre p f → fieldsFit nodes (numbersOf f) ≡ fieldsFit nodes p
+unfolding fieldsFit liveSound kindFits
+fields-same nodes w = simp (w .node, w .kind, w .min, w .max, w .attribute, w .format)
+
+-- A property's record: its numbers break a rule, its texts lie elsewhere, or neither.
+module _ (bs r : List ℕ) (at : ℕ) where
+  abbrev bothTexts : Option ℕ
+  bothTexts =
+      andThen (textsEndIn bs nameRoom 1 at) (λ mid. textsEndIn bs maxTexts (optionCount (getD r 1 0) (wordAt 6 r)) mid)
+
+  property-by : {t u : Bool} → fieldsFit (nodeCount bs) (propertySeen bs r) ≡ t → eqb (halfAt 14 r) at ≡ u
+      → propertyEnd bs r at ≡ cond (t && u) bothTexts none
+  unfolding propertyEnd
+  property-by e f = rw (e, f)
+
+  unfit : fieldsFit (nodeCount bs) (propertySeen bs r) ≡ false → propertyEnd bs r at ≡ none
+  unfit e = property-by e refl
+
+  elsewhere : (halfAt 14 r ≡ at → ⊥) → propertyEnd bs r at ≡ none
+  elsewhere h =
+      property-by refl (ne-eqb (halfAt 14 r) at h)
+      ∙ ap (λ t. cond t bothTexts none) (and-false (fieldsFit (nodeCount bs) (propertySeen bs r)))
+
+  texts-follow : fieldsFit (nodeCount bs) (propertySeen bs r) ≡ true → halfAt 14 r ≡ at → propertyEnd bs r at ≡ bothTexts
+  texts-follow e h = property-by e (eq-eqb (halfAt 14 r) at h)
+
+  both-within : (o : Option ℕ) {next : ℕ} → at ≤ length bs → textsEndIn bs nameRoom 1 at ≡ o
+      → andThen o (λ mid. textsEndIn bs maxTexts (optionCount (getD r 1 0) (wordAt 6 r)) mid) ≡ some next → next ≤ length bs
+  unfolding andThen
+  both-within none h e f = none-some f
+  both-within (some mid) h e f =
+      texts-within bs maxTexts (optionCount (getD r 1 0) (wordAt 6 r)) mid (texts-within bs nameRoom 1 at h e) f
+
+  pub property-within : {next : ℕ} → at ≤ length bs → propertyEnd bs r at ≡ some next → next ≤ length bs
+  property-within {next} h e = go (fieldsFit (nodeCount bs) (propertySeen bs r) && eqb (halfAt 14 r) at) (sym (property-by refl refl) ∙ e)
+    where
+      go : (t : Bool) → cond t bothTexts none ≡ some next → next ≤ length bs
+      go true f = both-within (textsEndIn bs nameRoom 1 at) h refl f
+      go false f = none-some f
+
+-- The same of the record at a place, by the numbers that were read there.
+module _ (bs : List ℕ) (k at : ℕ) {f : Fields} {nodes : ℕ} (n : nodes ≡ nodeCount bs) (h : k < propertyCount bs) (w : FieldsAre (propertyIn (seen bs) k) f) where
+  abbrev begin : ℕ
+  begin = propertiesStart (nodeCount bs) + k * propertySize
+
+  fields : FieldsAre (propertySeen bs (drop begin bs)) f
+  fields = subst (λ p. FieldsAre p f) (property-at bs k h) w
+
+  fit : fieldsFit nodes (numbersOf f) ≡ fieldsFit (nodeCount bs) (propertySeen bs (drop begin bs))
+  fit = ap (λ m. fieldsFit m (numbersOf f)) n ∙ fields-same (nodeCount bs) fields
+
+  options : optionCount (f .kind) (f .max) ≡ optionCount (getD (drop begin bs) 1 0) (wordAt 6 (drop begin bs))
+  unfolding propertySeen
+  options = ap₂ optionCount (fields .kind) (fields .max)
+
+  pub property-unfit : fieldsFit nodes (numbersOf f) ≡ false → Nothing ≡ foundOf (propertyEnd bs (drop begin bs) at)
+  property-unfit e = sym (ap foundOf (unfit bs (drop begin bs) at (sym fit ∙ e)))
+
+  pub property-elsewhere : (halfAt (begin + 14) bs ≡ at → ⊥) → Nothing ≡ foundOf (propertyEnd bs (drop begin bs) at)
+  property-elsewhere u =
+      sym (ap foundOf (elsewhere bs (drop begin bs) at (λ e. u (sym (half-behind begin 14 bs refl) ∙ e))))
+
+  module _ (good : fieldsFit nodes (numbersOf f) ≡ true) (here : halfAt (begin + 14) bs ≡ at) where
+    is : {o : Option ℕ} → textsEndIn bs nameRoom 1 at ≡ o
+        → propertyEnd bs (drop begin bs) at ≡ andThen o (λ mid. textsEndIn bs maxTexts (optionCount (f .kind) (f .max)) mid)
+    is e =
+        texts-follow bs (drop begin bs) at (sym fit ∙ good) (half-behind begin 14 bs refl ∙ here)
+        ∙ ap₂ (λ o m. andThen o (λ mid. textsEndIn bs maxTexts m mid)) e (sym options)
+
+    pub property-unnamed : Nothing ≡ foundOf (textsEndIn bs nameRoom 1 at) → Nothing ≡ foundOf (propertyEnd bs (drop begin bs) at)
+    unfolding andThen
+    property-unnamed e = sym (ap foundOf (is (found-none (textsEndIn bs nameRoom 1 at) e)))
+
+    pub property-ends : {mid : ℕ} {x : Found} → At mid ≡ foundOf (textsEndIn bs nameRoom 1 at)
+        → x ≡ foundOf (textsEndIn bs maxTexts (optionCount (f .kind) (f .max)) mid) → x ≡ foundOf (propertyEnd bs (drop begin bs) at)
+    unfolding andThen
+    property-ends e q = q ∙ sym (ap foundOf (is (found-at (textsEndIn bs nameRoom 1 at) e)))
+
+-- The whole check, test by test.
+module _ (bs : List ℕ) where
+  abbrev names : Option ℕ
+  names = recordsEnd nodeSize (nodeEnd bs) (nodeCount bs) (drop 2 bs) (textsStart (nodeCount bs) (propertyCount bs))
+
+  abbrev labels : ℕ → Option ℕ
+  labels mid = recordsEnd propertySize (propertyEnd bs) (propertyCount bs) (drop (propertiesStart (nodeCount bs)) bs) mid
+
+  pub uncounted : countsFit bs ≡ false → checked bs ≡ false
+  unfolding checked
+  uncounted e = rw e
+
+  module _ (counts : countsFit bs ≡ true) where
+    two : leb 2 (length bs) ≡ true
+    unfolding countsFit
+    two = and-left (leb 2 (length bs)) _ counts
+
+    later : (leb (nodeCount bs) maxNodes && (leb (propertyCount bs) maxProperties && leb (textsStart (nodeCount bs) (propertyCount bs)) (length bs))) ≡ true
+    unfolding countsFit
+    later = and-right (leb 2 (length bs)) _ counts
+
+    few : leb (nodeCount bs) maxNodes ≡ true
+    few = and-left (leb (nodeCount bs) maxNodes) _ later
+
+    pub counted-size : 2 ≤ length bs
+    counted-size = leb-true 2 (length bs) two
+
+    pub counted-start : textsStart (nodeCount bs) (propertyCount bs) ≤ length bs
+    counted-start =
+        leb-true (textsStart (nodeCount bs) (propertyCount bs)) (length bs)
+        (and-right (leb (propertyCount bs) maxProperties) _ (and-right (leb (nodeCount bs) maxNodes) _ later))
+
+    pub names-within : {mid : ℕ} → At mid ≡ foundOf names → mid ≤ length bs
+    names-within e =
+        records-within nodeSize (nodeEnd bs) (length bs) (λ r at next h q. node-within bs r at h q) (nodeCount bs) (drop 2 bs)
+        (textsStart (nodeCount bs) (propertyCount bs)) counted-start (found-at names e)
+
+    counted-by : {t : Bool} → lineageSound (parentsIn bs) ≡ t → checked bs ≡ (t && endsAt (textsFit bs) (length bs))
+    unfolding checked
+    counted-by e = rw (counts, e)
+
+    lineage-is : {t : Bool} → (leb (nodeCount bs) maxNodes && lineageSound (parentsIn bs)) ≡ t → lineageSound (parentsIn bs) ≡ t
+    lineage-is e = sym (ap (λ u. u && lineageSound (parentsIn bs)) few) ∙ e
+
+    pub parentless : (leb (nodeCount bs) maxNodes && lineageSound (parentsIn bs)) ≡ false → checked bs ≡ false
+    parentless e = counted-by (lineage-is e)
+
+    module _ (parents : (leb (nodeCount bs) maxNodes && lineageSound (parentsIn bs)) ≡ true) where
+      texts-by : {o : Option ℕ} → names ≡ o → checked bs ≡ endsAt (andThen o labels) (length bs)
+      unfolding textsFit
+      texts-by e = counted-by (lineage-is parents) ∙ ap (λ o. endsAt (andThen o labels) (length bs)) e
+
+      pub nameless : Nothing ≡ foundOf names → checked bs ≡ false
+      unfolding andThen
+      nameless e = texts-by (found-none names e)
+
+      module _ {mid : ℕ} (e : At mid ≡ foundOf names) where
+        pub labelless : Nothing ≡ foundOf (labels mid) → checked bs ≡ false
+        unfolding andThen
+        labelless f = texts-by (found-at names e) ∙ ap (λ o. endsAt o (length bs)) (found-none (labels mid) f)
+
+        pub all-read : {end : ℕ} → At end ≡ foundOf (labels mid) → checked bs ≡ eqb end (length bs)
+        unfolding andThen
+        all-read f = texts-by (found-at names e) ∙ ap (λ o. endsAt o (length bs)) (found-at (labels mid) f)
+
+-- The number of tree and cells, by the three tests.
+pub lent-by : (tree cells : List ℕ) {t u v : Bool} → isTree tree ≡ t → hasCells cells ≡ u
+    → eqb (length (cellsIn cells)) (propertyCount tree) ≡ v → cond (t && (u && v)) done unsound ≡ lentNumber tree cells
+unfolding lentNumber isLent seen
+lent-by tree cells {t} {u} e f g =
+    let properties : length (seen tree .properties) ≡ propertyCount tree =
+    records-length propertySize (propertySeen tree) (propertyCount tree) (drop (propertiesStart (nodeCount tree)) tree) in
+    sym (ap₂ (λ a b. cond (a && (b && eqb (length (cellsIn cells)) (length (seen tree .properties)))) done unsound) e f
+    ∙ ap (λ v. cond (t && (u && v)) done unsound) (ap (eqb (length (cellsIn cells))) properties ∙ g))
