@@ -2,7 +2,7 @@
 pub mod buffer;
 mod checksum;
 pub mod read;
-mod size;
+pub mod size;
 pub mod stream;
 pub mod udp;
 pub mod write;

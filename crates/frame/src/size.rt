@@ -7,7 +7,7 @@ ghost use mathlib.Core.Path.{_≡_};
 ghost use Rattle.protocol.specs.Frame.{sizeNumber};
 
 // 4 for data of no bytes, 5 for more than 256, and else 0.
-pub(crate) fn size_number(n: usize) -> u8
+pub fn size_number(n: usize) -> u8
     ensures { λ r. ⌜ r ≡ sizeNumber n ⌝ }
 {
     if n == 0 {

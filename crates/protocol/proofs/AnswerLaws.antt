@@ -91,12 +91,12 @@ properties-short t h =
     every-weaker (propertySound (length (t .nodes))) shortTexts (property-texts (length (t .nodes))) (t .properties)
     (and-right (leb (length (t .properties)) maxProperties) _ h)
 
-record Texts (t : Tree) : Type 0 where
-  names : (place : ℕ) → length (nodeIn t place .name) ≤ maxName
-  labels : (place : ℕ) → length (propertyIn t place .label) ≤ maxName
-  options : (place : ℕ) → length (texts (propertyIn t place .options)) ≤ maxTexts
+pub record Texts (t : Tree) : Type 0 where
+  pub names : (place : ℕ) → length (nodeIn t place .name) ≤ maxName
+  pub labels : (place : ℕ) → length (propertyIn t place .label) ≤ maxName
+  pub options : (place : ℕ) → length (texts (propertyIn t place .options)) ≤ maxTexts
 
-texts-short : (t : Tree) → sound t ≡ true → Texts t
+pub texts-short : (t : Tree) → sound t ≡ true → Texts t
 unfolding sound isName optionsSound every texts
 texts-short t h =
     let names : every (λ n. isName (n .name)) (t .nodes) ≡ true =
@@ -137,22 +137,22 @@ module _ (r : Request) (path : length (r .path) ≤ maxDepth) where
         most = omega (arith, length-append (echoIndexed r) more, length-append (echo r) (r .index ∷ []));
       }
 
-  node-size : (t : Tree) → Texts t → (place : ℕ) → Sized (nodeReply t place r)
+  pub node-size : (t : Tree) → Texts t → (place : ℕ) → Sized (nodeReply t place r)
   unfolding nodeReply
   node-size t short place = echo-size _ (omega (arith, short .names place, length-text (nodeIn t place .name)))
 
-  record-size : (t : Tree) → Texts t → (place : ℕ) → Sized (recordReply (propertyIn t place) r)
+  pub record-size : (t : Tree) → Texts t → (place : ℕ) → Sized (recordReply (propertyIn t place) r)
   unfolding recordReply word half
   record-size t short place =
       let p : Property = propertyIn t place in
       let size = length-append (text (p .label)) (texts (p .options)) in
       indexed-size _ (omega (arith, short .labels place, short .options place, length-text (p .label), size))
 
-  read-size : (c : Cell) → Sized (readReply c r)
+  pub read-size : (c : Cell) → Sized (readReply c r)
   unfolding readReply word
   read-size c = indexed-size _ (omega arith)
 
-  write-size : (o : Outcome) → Sized (writeReply o r)
+  pub write-size : (o : Outcome) → Sized (writeReply o r)
   unfolding writeReply word
   write-size o = indexed-size _ (omega (arith, ending-short (eqb (r .op) opWrite) o))
 

@@ -81,12 +81,12 @@ lineage-exact [] = refl
 lineage-exact (n ∷ ns) =
     alike _ _
     (λ h.
-      let both = lineage-sound ns (1 ∷ []) (and-right (eqb (n .parent) 0) _ h) (every-one shallow 1 refl) in
-      and-both (and-both (and-left (eqb (n .parent) 0) _ h) (both .0)) (both .1))
+    let both = lineage-sound ns (1 ∷ []) (and-right (eqb (n .parent) 0) _ h) (every-one shallow 1 refl) in
+    and-both (and-both (and-left (eqb (n .parent) 0) _ h) (both .0)) (both .1))
     (λ h.
-      let p = and-left (eqb (n .parent) 0 && parentsFrom 1 ns) _ h in
-      and-both (and-left (eqb (n .parent) 0) _ p)
-      (lineage-passes ns (1 ∷ []) (and-right (eqb (n .parent) 0) _ p) (and-right (eqb (n .parent) 0 && parentsFrom 1 ns) _ h)))
+    let p = and-left (eqb (n .parent) 0 && parentsFrom 1 ns) _ h in
+    and-both (and-left (eqb (n .parent) 0) _ p)
+    (lineage-passes ns (1 ∷ []) (and-right (eqb (n .parent) 0) _ p) (and-right (eqb (n .parent) 0 && parentsFrom 1 ns) _ h)))
 
 -- The parents that are seen in bytes.
 pub parents-seen : (bs : List ℕ) (n : ℕ) (r : List ℕ)

@@ -230,8 +230,7 @@ pub tree-sound : (bs : List ℕ) (t : Tree) → treeOf bs ≡ some t → (sound 
 unfolding treeOf isTree
 tree-sound bs t h =
     let both = if-tree (same bs (formOf (seen bs)) && sound (seen bs)) h in
-    let passed = both .0 in
-    (
+    let passed = both .0 in (
       ap sound (sym (both .1)) ∙ and-right (same bs (formOf (seen bs))) _ passed,
       same-eq bs (formOf (seen bs)) (and-left (same bs (formOf (seen bs))) _ passed) ∙ ap formOf (both .1),
     )

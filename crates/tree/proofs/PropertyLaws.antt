@@ -108,11 +108,10 @@ module _ (p : Property) where
     where
       go : (t : Bool) → eqb (p .kind) standard ≡ t → (kindFits p ≡ true) × (length (p .options) ≡ optionCount (p .kind) (p .max))
       go true e =
-          let all : (eqb (length (p .options)) 1 && atMost (isSigned p) (p .min) (p .max)) ≡ true = sym (sound-by true e) ∙ h in
-          (
+          let all : (eqb (length (p .options)) 1 && atMost (isSigned p) (p .min) (p .max)) ≡ true = sym (sound-by true e) ∙ h in (
             fits-by true e ∙ and-right (eqb (length (p .options)) 1) _ all,
             eqb-true (length (p .options)) 1 (and-left (eqb (length (p .options)) 1) _ all)
-            ∙ sym (count-standard (p .kind) (p .max) (eqb-true (p .kind) standard e)),
+                ∙ sym (count-standard (p .kind) (p .max) (eqb-true (p .kind) standard e)),
           )
       go false e =
           let all : (eqb (p .kind) enumeration && (eqb (p .min) 0 && (leb (p .max) maxOption && eqb (length (p .options)) (suc (p .max))))) ≡ true =
@@ -121,11 +120,10 @@ module _ (p : Property) where
           let zeros : (eqb (p .min) 0 && (leb (p .max) maxOption && eqb (length (p .options)) (suc (p .max)))) ≡ true =
           and-right (eqb (p .kind) enumeration) _ all in
           let rest : (leb (p .max) maxOption && eqb (length (p .options)) (suc (p .max))) ≡ true = and-right (eqb (p .min) 0) _ zeros in
-          let top : leb (p .max) maxOption ≡ true = and-left (leb (p .max) maxOption) _ rest in
-          (
+          let top : leb (p .max) maxOption ≡ true = and-left (leb (p .max) maxOption) _ rest in (
             fits-by false e ∙ and-both two (and-both (and-left (eqb (p .min) 0) _ zeros) top),
             eqb-true (length (p .options)) (suc (p .max)) (and-right (leb (p .max) maxOption) _ rest)
-            ∙ sym (count-enumeration (p .kind) (p .max) (eqb-true (p .kind) enumeration two) (leb-true (p .max) maxOption top)),
+                ∙ sym (count-enumeration (p .kind) (p .max) (eqb-true (p .kind) enumeration two) (leb-true (p .max) maxOption top)),
           )
 
 -- A property that ends well is laid out as in a form.

@@ -1,0 +1,1 @@
+-- Laws that the proofs of this crate apply to the places of their code.

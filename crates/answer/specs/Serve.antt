@@ -1,0 +1,62 @@
+-- 01, Numbers returned: a serving call, whatever it is lent.
+use Prim.Native.Nat.{ℕ}
+use mathlib.Core.Path.{_≡_}
+use mathlib.Core.Bool.{Bool, cond}
+use mathlib.Core.List.{List, []}
+use mathlib.Core.Option.{Option, none}
+use lib.ListN.{length}
+use lib.Dec.{eqb, ltb}
+use Rattle.protocol.specs.Numbers.{done, unsound, noRoom, roomData, roomUdp, roomSerial}
+use Rattle.protocol.specs.Frame.{Received, received, frame, datagram, ifSized, readFrame, readDatagram}
+use Rattle.protocol.specs.Buffer.{over}
+use Rattle.protocol.specs.Answer.{Answer, answer}
+use Rattle.tree.specs.Seen.{seen}
+use Rattle.tree.specs.Cells.{cellsForm, cellsIn}
+use Rattle.tree.specs.Lent.{isLent}
+use Rattle.answer.specs.Reply.{actionNumber}
+
+-- What a serving call gives: the number, what it writes to the front of the output, every byte of the cells, and the place of
+-- the property whose action is to be taken.
+pub record Service : Type 0 where
+  pub number : ℕ
+  pub written : List ℕ
+  pub cells : List ℕ
+  pub action : Option ℕ
+
+-- Rows 1 to 8: nothing is written, and no cell changes.
+abbrev pub turnedAway : List ℕ → ℕ → Service
+turnedAway cells n = record { number = n; written = []; cells = cells; action = none }
+
+-- An answer, its reply in the form of the road that it goes by.
+abbrev pub inForm : (List ℕ → List ℕ) → Answer → Service
+inForm form a = record { number = a .number; written = form (a .reply); cells = cellsForm (a .cells); action = a .action }
+
+-- The order of all serving calls: 1, 8, then the rows of what was received, then those of the answer.
+unfoldable pub serve : (List ℕ → List ℕ) → ℕ → ℕ → Received → Bool → List ℕ → List ℕ → Service
+serve form least room r host tree cells =
+    cond (isLent tree cells)
+    (cond (ltb room least)
+    (turnedAway cells noRoom)
+    (cond (eqb (r .number) done)
+    (inForm form (answer (seen tree) (cellsIn cells) host (r .payload)))
+    (turnedAway cells (r .number))))
+    (turnedAway cells unsound)
+
+-- The three roads: request data, a serial string for the box's address, a datagram. A serial reply carries that address.
+abbrev pub serveData : ℕ → List ℕ → Bool → List ℕ → List ℕ → Service
+serveData room bs host tree cells = serve (λ reply. reply) roomData room (ifSized bs (received bs)) host tree cells
+
+abbrev pub serveSerial : ℕ → ℕ → List ℕ → Bool → List ℕ → List ℕ → Service
+serveSerial address room s host tree cells = serve (frame address) roomSerial room (readFrame address s) host tree cells
+
+abbrev pub serveUdp : ℕ → List ℕ → Bool → List ℕ → List ℕ → Service
+serveUdp room s host tree cells = serve datagram roomUdp room (readDatagram s) host tree cells
+
+-- What a serving call hands back and leaves: its number, the length of what it wrote, the action's property, every byte of the
+-- cells and of the output.
+pub record Serves (what : Service) (out : List ℕ) (n size action : ℕ) (cells′ out′ : List ℕ) : Type 0 where
+  pub number : n ≡ what .number
+  pub len : size ≡ length (what .written)
+  pub acts : action ≡ actionNumber (what .action)
+  pub cells : cells′ ≡ what .cells
+  pub bytes : out′ ≡ over (what .written) out

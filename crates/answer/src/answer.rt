@@ -1,0 +1,207 @@
+// A request that was read, answered: the reply at the front of an output of at least 256 bytes, and the cells afterwards.
+use super::ACK;
+use super::DISABLED;
+use super::DISABLED_CODE;
+use super::ERROR;
+use super::ILLEGAL;
+use super::NAK;
+use super::NO_ACTION;
+use super::NO_READING;
+use super::NOT_SAVED;
+use super::OP_RECORD;
+use super::Served;
+use super::reply;
+use super::write;
+use super::write::Outcome;
+use protocol::DONE;
+use request::Asked;
+use request::BAD_PARAMETER;
+use request::OP_DETECT;
+use request::OP_NODE;
+use request::OP_READ;
+use request::UNKNOWN_COMMAND;
+use tree::Found;
+use tree::cells;
+use tree::find;
+use tree::record;
+ghost use mathlib.Core.Path.{_≡_};
+ghost use mathlib.Core.Bool.{true};
+ghost use mathlib.Core.Option.{some};
+ghost use Prim.Native.Nat.{_≤_, _<_};
+ghost use lib.ListN.{length};
+ghost use Rattle.protocol.specs.Numbers.{done, opDetect, opNode, opRead};
+ghost use Rattle.protocol.specs.Tree.{propertyIn, cellIn, readable};
+ghost use Rattle.protocol.specs.Answer.{refusalCode, onRead, onWrite, onProperty, ifNode, perform, outcome};
+ghost use Rattle.tree.specs.Seen.{seen};
+ghost use Rattle.tree.specs.Cells.{cellsIn};
+ghost use Rattle.tree.specs.Lent.{isLent};
+ghost use Rattle.answer.specs.Reply.{requestIn, askedIn, Asks, Refuses, answerAsked, Answers};
+
+// Rows 9 to 12: the reply code of a refusal.
+fn refusal_code(number: u8) -> u8
+    ensures { λ r. ⌜ r ≡ refusalCode number ⌝ }
+{
+    if number == DISABLED {
+        return DISABLED_CODE;
+    }
+    if number == UNKNOWN_COMMAND {
+        return ILLEGAL;
+    }
+    if number == BAD_PARAMETER {
+        return ERROR;
+    }
+    NAK
+}
+
+fn refuse(number: u8, out: &mut [u8]) -> Served
+    requires { ⌜ 256 ≤ length (now out) ⌝ }
+    ensures { λ r. ⌜ Refuses number (now (out .entry)) (r .number) (r .len) (r .action) (now (out .exit)) ⌝ }
+{
+    Served {
+        number,
+        len: reply::put_code(out, refusal_code(number)),
+        action: NO_ACTION,
+    }
+}
+
+// Row 12: whether the property at a place has a number to read.
+fn is_readable(tree: &[u8], cells: &[u8], place: usize) -> bool
+    ensures { λ r. ⌜ r ≡ readable (propertyIn (seen (now (tree .entry))) place) (cellIn (cellsIn (now (cells .entry))) place) ⌝ }
+{
+    let f = record::read_fields(tree, place);
+    if !f.can_read() {
+        return false;
+    }
+    if !f.is_live() {
+        return true;
+    }
+    cells::is_ready(cells, place)
+}
+
+// Op 3.
+fn on_read(tree: &[u8], cells: &[u8], place: usize, asked: Asked, out: &mut [u8]) -> Served
+    requires { ⌜ (256 ≤ length (now out)) × ((isLent (now tree) (now cells) ≡ true) × (Asks asked × (asked .op ≡ opRead))) ⌝ }
+    ensures { λ r. ⌜ Answers (onRead (cellsIn (now (cells .entry))) (propertyIn (seen (now (tree .entry))) place) place (requestIn asked)) (now (out .entry)) (r .number) (r .len) (r .action) (now (cells .entry)) (now (out .exit)) ⌝ }
+{
+    if !is_readable(tree, cells, place) {
+        return refuse(NO_READING, out);
+    }
+    Served {
+        number: DONE,
+        len: reply::put_reading(cells::read_word(cells, place), asked, out),
+        action: NO_ACTION,
+    }
+}
+
+// Ops 4 and 5.
+fn on_write(tree: &[u8], cells: &mut [u8], place: usize, asked: Asked, out: &mut [u8]) -> Served
+    requires { ⌜ (256 ≤ length (now out)) × ((isLent (now tree) (now cells) ≡ true) × (Asks asked × ((opRead < asked .op) × (place < 256)))) ⌝ }
+    ensures { λ r. ⌜ Answers (onWrite (cellsIn (now (cells .entry))) place (requestIn asked) (outcome (propertyIn (seen (now (tree .entry))) place) (asked .value))) (now (out .entry)) (r .number) (r .len) (r .action) (now (cells .exit)) (now (out .exit)) ⌝ }
+{
+    let o = write::outcome_of(record::read_fields(tree, place), asked.value);
+    let len = reply::put_written(o, asked, out);
+    match o {
+        Outcome::Saved => {
+            cells::store_word(cells, place, asked.value);
+            Served {
+                number: DONE,
+                len,
+                action: NO_ACTION,
+            }
+        }
+        Outcome::Taken => Served {
+            number: DONE,
+            len,
+            action: place as u8,
+        },
+        Outcome::ReadOnly => not_saved(len),
+        Outcome::OutOfRange => not_saved(len),
+    }
+}
+
+fn not_saved(len: usize) -> Served
+    ensures { λ r. ⌜ (r .number ≡ 13) × ((r .len ≡ len) × (r .action ≡ 255)) ⌝ }
+{
+    Served {
+        number: NOT_SAVED,
+        len,
+        action: NO_ACTION,
+    }
+}
+
+// Ops 2 to 5, once the property is found.
+fn on_property(tree: &[u8], cells: &mut [u8], place: usize, asked: Asked, out: &mut [u8]) -> Served
+    requires { ⌜ (256 ≤ length (now out)) × ((isLent (now tree) (now cells) ≡ true) × (Asks asked × ((opNode < asked .op) × (place < length (seen (now tree) .properties))))) ⌝ }
+    ensures { λ r. ⌜ Answers (onProperty (seen (now (tree .entry))) (cellsIn (now (cells .entry))) (requestIn asked) place) (now (out .entry)) (r .number) (r .len) (r .action) (now (cells .exit)) (now (out .exit)) ⌝ }
+{
+    if asked.op == OP_RECORD {
+        return Served {
+            number: DONE,
+            len: reply::put_record(tree, place, asked, out),
+            action: NO_ACTION,
+        };
+    }
+    if asked.op == OP_READ {
+        return on_read(tree, cells, place, asked, out);
+    }
+    on_write(tree, cells, place, asked, out)
+}
+
+// Ops 1 to 5, once the node is found.
+fn on_node(tree: &[u8], cells: &mut [u8], node: usize, asked: Asked, out: &mut [u8]) -> Served
+    requires { ⌜ (256 ≤ length (now out)) × ((isLent (now tree) (now cells) ≡ true) × (Asks asked × (opDetect < asked .op))) ⌝ }
+    ensures { λ r. ⌜ Answers (ifNode (seen (now (tree .entry))) (cellsIn (now (cells .entry))) (requestIn asked) (some node)) (now (out .entry)) (r .number) (r .len) (r .action) (now (cells .exit)) (now (out .exit)) ⌝ }
+{
+    if asked.op == OP_NODE {
+        return Served {
+            number: DONE,
+            len: reply::put_node(tree, node, asked, out),
+            action: NO_ACTION,
+        };
+    }
+    let Found::At(place) = find::property(tree, node, asked.index) else {
+        return refuse(BAD_PARAMETER, out);
+    };
+    on_property(tree, cells, place, asked, out)
+}
+
+// A request.
+fn perform(tree: &[u8], cells: &mut [u8], asked: Asked, out: &mut [u8]) -> Served
+    requires { ⌜ (256 ≤ length (now out)) × ((isLent (now tree) (now cells) ≡ true) × Asks asked) ⌝ }
+    ensures { λ r. ⌜ Answers (perform (seen (now (tree .entry))) (cellsIn (now (cells .entry))) (requestIn asked)) (now (out .entry)) (r .number) (r .len) (r .action) (now (cells .exit)) (now (out .exit)) ⌝ }
+{
+    if asked.op == OP_DETECT {
+        return Served {
+            number: DONE,
+            len: reply::put_code(out, ACK),
+            action: NO_ACTION,
+        };
+    }
+    let path = asked.path;
+    let len = asked.len;
+    let Found::At(node) = find::node(tree, &path[..len]) else {
+        return refuse(BAD_PARAMETER, out);
+    };
+    on_node(tree, cells, node, asked, out)
+}
+
+// What was read: 9, 10 or 11, else the request.
+pub(crate) fn answer_asked(
+    tree: &[u8],
+    cells: &mut [u8],
+    host: bool,
+    asked: Asked,
+    out: &mut [u8],
+) -> Served
+    requires { ⌜ (256 ≤ length (now out)) × ((isLent (now tree) (now cells) ≡ true) × (asked .number ≡ done → Asks asked)) ⌝ }
+    ensures { λ r. ⌜ Answers (answerAsked (seen (now (tree .entry))) (cellsIn (now (cells .entry))) host (askedIn asked)) (now (out .entry)) (r .number) (r .len) (r .action) (now (cells .exit)) (now (out .exit)) ⌝ }
+{
+    if !host {
+        return refuse(DISABLED, out);
+    }
+    let number = asked.number;
+    if number != DONE {
+        return refuse(number, out);
+    }
+    perform(tree, cells, asked, out)
+}

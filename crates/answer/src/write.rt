@@ -1,0 +1,65 @@
+// What a write does.
+use super::SAVE_DONE;
+use super::SAVE_FAILED;
+use super::SAVE_NONE;
+use tree::STANDARD;
+use tree::record;
+use tree::record::Fields;
+ghost use mathlib.Core.Path.{_≡_};
+ghost use Rattle.protocol.specs.Answer.{inRange, outcome, saveByte};
+ghost use Rattle.tree.specs.Lent.{numbersOf};
+ghost use Rattle.answer.specs.Reply.{meaning};
+
+// The value is saved, the action is taken, or neither: the property has no write attribute, or the value is out of range.
+pub enum Outcome {
+    Saved,
+    Taken,
+    ReadOnly,
+    OutOfRange,
+}
+
+// Whether a value lies in a property's range.
+fn in_range(f: Fields, value: u32) -> bool
+    ensures { λ r. ⌜ r ≡ inRange (numbersOf f) value ⌝ }
+{
+    if f.kind != STANDARD {
+        return value <= f.max;
+    }
+    if f.min == 0 {
+        if f.max == 0 {
+            return true;
+        }
+    }
+    let signed = f.is_signed();
+    if !record::at_most(signed, f.min, value) {
+        return false;
+    }
+    record::at_most(signed, value, f.max)
+}
+
+// The tests of a write in their order: no write attribute, then the range; an action has none.
+pub(crate) fn outcome_of(f: Fields, value: u32) -> Outcome
+    ensures { λ r. ⌜ meaning r ≡ outcome (numbersOf f) value ⌝ }
+{
+    if !f.can_write() {
+        return Outcome::ReadOnly;
+    }
+    if !f.can_read() {
+        return Outcome::Taken;
+    }
+    if in_range(f, value) {
+        return Outcome::Saved;
+    }
+    Outcome::OutOfRange
+}
+
+pub(crate) fn save_byte(o: Outcome) -> u8
+    ensures { λ r. ⌜ r ≡ saveByte (meaning o) ⌝ }
+{
+    match o {
+        Outcome::Saved => SAVE_DONE,
+        Outcome::Taken => SAVE_NONE,
+        Outcome::ReadOnly => SAVE_FAILED,
+        Outcome::OutOfRange => SAVE_FAILED,
+    }
+}
