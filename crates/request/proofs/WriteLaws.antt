@@ -12,7 +12,7 @@ use lib.Seq.{take-suc, take-all, take-at, length-take-le}
 use lib.Dec.{eqb, ltb}
 use Rattle.protocol.specs.Numbers.{done, noRoom, roomSerial, roomUdp, PDI, opNode, opRead}
 use Rattle.protocol.specs.Bytes.{word}
-use Rattle.protocol.specs.Frame.{Received, received, refused, frame, datagram, ifSized, ifDone, ifRoom, writeFrame, writeDatagram}
+use Rattle.protocol.specs.Frame.{Received, received, refused, Sized, frame, datagram, ifSized, ifDone, ifRoom, writeFrame, writeDatagram}
 use Rattle.protocol.specs.Buffer.{putAt, fitting, Put, Emits}
 use Rattle.protocol.specs.Request.{Request, allowance, Allowed, dataOf, serialForm, udpForm}
 use Rattle.protocol.proofs.BufferLaws.{put-nil, puts, put-room, length-put, over-put, over-nil, emits-refused, emits-no-room, emits-in-room}
@@ -114,27 +114,26 @@ put-for-within r p h = put-within (p .put) (omega (arith, h, dataOf-size r (p .a
 pub part-size : (k : ℕ) (l : List ℕ) → k ≤ length l → k ≡ length (take k l)
 part-size k l h = sym (length-take-le k l h)
 
--- The data of an allowed request is of a good size, so that where there is room it is written in its form.
+-- Data of a good size is written in its form where there is room.
 unroomed : {least room : ℕ} {w : Received} {old new : List ℕ} {n size : ℕ} → least ≤ room → Emits (ifRoom least room w) old n size new
     → Emits w old n size new
 unfolding ifRoom
 unroomed {least} {room} h e = rw (le-ltb room least h) at e
 
-emits-form : (form : List ℕ → List ℕ) (least : ℕ) (r : Request) → Allowed r → {d old new : List ℕ} {n size : ℕ} → d ≡ dataOf r
-    → least ≤ length old → Emits (ifRoom least (length old) (ifSized d (received (form d)))) old n size new
-    → Emits (received (form (dataOf r))) old n size new
-emits-form form least r allowed {d} {old} {new} {n} {size} is h e =
-    subst (λ w. Emits w old n size new)
-    (ap (λ l. ifSized l (received (form l))) is ∙ ifSized-sized (dataOf r) (received (form (dataOf r))) (dataOf-sized r allowed))
-    (unroomed h e)
+pub emits-formed : (form : List ℕ → List ℕ) (least : ℕ) (e : List ℕ) → Sized e → {d old new : List ℕ} {n size : ℕ} → d ≡ e → least ≤ length old
+    → Emits (ifRoom least (length old) (ifSized d (received (form d)))) old n size new → Emits (received (form e)) old n size new
+emits-formed form least e sized {d} {old} {new} {n} {size} is h w =
+    subst (λ r. Emits r old n size new)
+    (ap (λ l. ifSized l (received (form l))) is ∙ ifSized-sized e (received (form e)) sized)
+    (unroomed h w)
 
 module _ (r : Request) (allowed : Allowed r) {d old new : List ℕ} {n size : ℕ} (is : d ≡ dataOf r) where
   pub emits-serial : (a : ℕ) → roomSerial ≤ length old
       → Emits (ifRoom roomSerial (length old) (writeFrame a d)) old n size new → Emits (received (serialForm a r)) old n size new
   unfolding serialForm
-  emits-serial a h e = emits-form (frame a) roomSerial r allowed is h e
+  emits-serial a h e = emits-formed (frame a) roomSerial (dataOf r) (dataOf-sized r allowed) is h e
 
   pub emits-udp : roomUdp ≤ length old → Emits (ifRoom roomUdp (length old) (writeDatagram d)) old n size new
       → Emits (received (udpForm r)) old n size new
   unfolding udpForm
-  emits-udp h e = emits-form datagram roomUdp r allowed is h e
+  emits-udp h e = emits-formed datagram roomUdp (dataOf r) (dataOf-sized r allowed) is h e

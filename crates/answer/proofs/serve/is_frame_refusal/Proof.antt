@@ -1,15 +1,19 @@
+-- `answer::serve::is_frame_refusal` meets its contract. Assumes nothing.
+use native.Mathlib.Omega.{arith}
+use mathlib.Core.Path.{sym, ap}
+use mathlib.Core.Bool.{_&&_}
+use borrow.Author.Tests.{lt-ltb}
+use lib.Dec.{ltb}
 use Rattle.answer.proofs.serve.is_frame_refusal.Statement.{statement}
 use Rattle.answer.proofs.serve.is_frame_refusal.Tie as tie
-use Rattle.answer.proofs.serve.is_frame_refusal.Reads as reads
-use Rattle.answer.proofs.serve.is_frame_refusal.Lts as lts
 
--- src/serve.rt:132:9
 returns : tie.Need-returns
-returns c = ?
+returns c = sym (ap (λ n. ltb 0 n && ltb n 9) (c .if1 .taken))
 
--- src/serve.rt:128:1
 returns-2 : tie.Need-returns-2
-returns-2 c = ?
+returns-2 c =
+    let n = c .before .args .number in
+    sym (ap (λ t. t && ltb n 9) (lt-ltb 0 n (omega (arith, c .if1 .left))))
 
 pub is-frame-refusal-spec : {M : Type 1} → statement M
 is-frame-refusal-spec = tie.close (tie.spec returns returns-2)

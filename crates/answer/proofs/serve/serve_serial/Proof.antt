@@ -1,80 +1,113 @@
+-- `answer::serve::serve_serial` meets its contract. Assumes nothing.
+use Prim.Native.Nat.{_≤_}
+use native.Mathlib.Omega.{arith}
+use mathlib.Core.Path.{_≡_}
 use borrow.Author.Needs.{needs}
+use lib.ListN.{length, replicate}
+use Rattle.protocol.specs.Numbers.{roomSerial}
+use Rattle.protocol.specs.Frame.{frame, readFrame}
+use Rattle.protocol.specs.Request.{readSerial}
+use Rattle.request.proofs.WriteLaws.{part-size}
+use Rattle.answer.specs.Reply.{Answers}
+use Rattle.answer.proofs.ReadLaws.{Read, early-frame, row-of-string, row-of-data}
+use Rattle.answer.proofs.ServeLaws.{turned, row-true, row-false, Call, answerTo, Open, opened, serve-unlent, serve-refused, serve-answered, replies, answered-as, as-serial, reply-within}
 use Rattle.answer.proofs.serve.serve_serial.Statement.{statement}
 use Rattle.answer.proofs.serve.serve_serial.Tie as tie
-use Rattle.answer.proofs.serve.serve_serial.Reads as reads
-use Rattle.answer.proofs.serve.serve_serial.Lts as lts
-use Rattle.answer.proofs.answer.answer_asked.Reads as answer-asked-reads
-use Rattle.answer.proofs.serve.is_frame_refusal.Reads as is-frame-refusal-reads
-use Rattle.answer.proofs.serve.lent_number.Reads as lent-number-reads
-use Rattle.answer.proofs.serve.turned_away.Reads as turned-away-reads
-use Rattle.frame.proofs.write.write_frame.Reads as write-frame-reads
-use Rattle.request.proofs.read.read_serial.Reads as read-serial-reads
 
--- src/serve.rt:79:9
+abbrev call : tie.Start → Call
+call c =
+    record {
+      form = frame (c .args .address);
+      least = roomSerial;
+      room = length (c .args .out .now);
+      string = readFrame (c .args .address) (c .args .s .now);
+      host = c .args .host;
+      tree = c .args .tree .now;
+      cells = c .args .cells .now;
+    }
+
+abbrev start-of : tie.After-lent-number → tie.Start
+start-of c = c .before .before .before .before .before .before
+
+-- Behind rows 1 and 8, and behind rows 2 to 7.
+unrefused : (c : tie.Else1) → Open (call (start-of (c .before)))
+unrefused c = opened (call (start-of (c .before))) (c .before .lent-number .ensures) (c .if1 .left)
+
+abbrev else-of : tie.Else2 → tie.Else1
+else-of c = c .before .before .before
+
+good : (c : tie.Else2)
+    → let start = start-of (else-of c .before) in
+    Read (call start .string) (early-frame (start .args .address) (start .args .s .now)) (c .before .before .read-serial .ensures)
+unfolding readSerial
+good c =
+    let refusal = c .before in
+    let read = refusal .before in
+    let start = start-of (else-of c .before) in
+    row-of-data (call start .string) (early-frame (start .args .address) (start .args .s .now)) (read .read-serial .ensures)
+    (row-false (read .read-serial .result .number) (refusal .is-frame-refusal .ensures) (c .if2 .left))
+
 lent-number-requires : tie.Need-lent-number-requires
 lent-number-requires c κs = search needs
 
--- src/serve.rt:81:9
 turned-away-requires : tie.Need-turned-away-requires
 turned-away-requires c κs = search needs
 
--- src/serve.rt:81:9
 same-length : tie.Need-same-length
 same-length c = search needs
 
--- src/serve.rt:81:9
 returns : tie.Need-returns
-returns c = ?
+returns c =
+    let then1 = c .before in
+    let start = start-of (then1 .before) in
+    turned (serve-unlent (call start) (then1 .before .lent-number .ensures) (then1 .if1 .taken) (start .args .out .now))
+    (c .turned-away .ensures .0) (c .turned-away .ensures .1 .0) (c .turned-away .ensures .1 .1)
 
--- src/serve.rt:83:9
 read-serial-requires : tie.Need-read-serial-requires
 read-serial-requires c κs = search needs
 
--- src/serve.rt:85:8
 is-frame-refusal-requires : tie.Need-is-frame-refusal-requires
 is-frame-refusal-requires c κs = search needs
 
--- src/serve.rt:86:9
 turned-away-requires-2 : tie.Need-turned-away-requires-2
 turned-away-requires-2 c κs = search needs
 
--- src/serve.rt:86:9
 same-length-2 : tie.Need-same-length-2
 same-length-2 c = search needs
 
--- src/serve.rt:86:9
 returns-2 : tie.Need-returns-2
-returns-2 c = ?
+unfolding readSerial
+returns-2 c =
+    let then2 = c .before in
+    let refusal = then2 .before in
+    let read = refusal .before in
+    let start = start-of (read .before .before) in
+    let row = row-true (read .read-serial .result .number) (refusal .is-frame-refusal .ensures) (then2 .if2 .taken) in
+    let bad = row-of-string (call start .string) (early-frame (start .args .address) (start .args .s .now)) (read .read-serial .ensures) (row .0) (row .1) in
+    turned (serve-refused (call start) (unrefused (read .before)) (bad .number) (bad .bad) (start .args .out .now))
+    (c .turned-away .ensures .0) (c .turned-away .ensures .1 .0) (c .turned-away .ensures .1 .1)
 
--- src/serve.rt:89:65
 slice-aggregate-answer-asked : tie.Need-slice-aggregate-answer-asked
 slice-aggregate-answer-asked c = search needs
 
--- src/serve.rt:89:9
 answer-asked-requires : tie.Need-answer-asked-requires
 answer-asked-requires c κs = ?
 
--- src/serve.rt:91:53
 array-share-prefix-payload : tie.Need-array-share-prefix-payload
 array-share-prefix-payload c = ?
 
--- src/serve.rt:91:53
 slice-aggregate-write-frame : tie.Need-slice-aggregate-write-frame
 slice-aggregate-write-frame c = ?
 
--- src/serve.rt:91:9
 write-frame-requires : tie.Need-write-frame-requires
 write-frame-requires c κs = search needs
 
--- src/serve.rt:69:1
 same-length-3 : tie.Need-same-length-3
 same-length-3 c = search needs
 
--- src/serve.rt:69:1
 same-length-4 : tie.Need-same-length-4
 same-length-4 c = search needs
 
--- src/serve.rt:69:1
 returns-3 : tie.Need-returns-3
 returns-3 c = ?
 

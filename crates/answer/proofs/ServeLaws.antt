@@ -1,0 +1,205 @@
+-- Serving calls, row by row, and their replies in the form of each road.
+-- Assumes nothing.
+use Prim.Native.Nat.{ℕ, _+_, _-_, _<_, _≤_}
+use native.Mathlib.Omega.{arith}
+use native.Mathlib.Nat.{zero-add}
+use mathlib.Core.Path.{_≡_, refl, sym, ap, ap₂, subst, _∙_}
+use mathlib.Core.Bool.{Bool, true, false, cond, _&&_}
+use mathlib.Core.List.{List, [], _∷_, _++_}
+use mathlib.Core.Option.{Option, none, some}
+use borrow.Rule.Slice.PartMut.{putMid}
+use borrow.Author.Tests.{ltb-true, ltb-false, lt-ltb, le-ltb, eq-eqb, ne-eqb}
+use lib.ListN.{length, take, drop}
+use lib.Dec.{eqb, ltb}
+use Rattle.protocol.specs.Numbers.{done, unsound, noRoom, disabled, roomData, roomSerial, roomUdp}
+use Rattle.protocol.specs.Frame.{Received, received, Sized, frame, datagram, ifRoom, writeFrame}
+use Rattle.protocol.specs.Buffer.{over, fitting, Put, Emits}
+use Rattle.protocol.specs.Request.{Asked, readRequest}
+use Rattle.protocol.specs.Tree.{Tree, Cell, sound}
+use Rattle.protocol.specs.Answer.{Answer, answer}
+use Rattle.protocol.proofs.TestLaws.{and-left, and-right}
+use Rattle.protocol.proofs.BufferLaws.{over-put, over-nil, put-fits, put-room}
+use Rattle.protocol.proofs.AnswerLaws.{reply-sized}
+use Rattle.frame.proofs.UdpLaws.{emits-datagram}
+use Rattle.request.proofs.WriteLaws.{put-front, emits-formed}
+use Rattle.tree.specs.Seen.{seen, same, isTree}
+use Rattle.tree.specs.Form.{formOf}
+use Rattle.tree.specs.Cells.{cellsForm, cellsIn, hasCells}
+use Rattle.tree.specs.Lent.{isLent, lentNumber}
+use Rattle.answer.specs.Reply.{actionNumber, answerAsked, Answers}
+use Rattle.answer.specs.Serve.{Service, turnedAway, inForm, serve, Serves}
+
+-- What is read, answered, is its data answered.
+answered-data : (t : Tree) (cs : List Cell) (host : Bool) (bs : List ℕ) → answerAsked t cs host (readRequest bs) ≡ answer t cs host bs
+unfolding answerAsked answer
+answered-data t cs true bs = refl
+answered-data t cs false bs = refl
+
+-- A lent tree is sound, so that every reply can be framed.
+lent-sound : (tree cells : List ℕ) → isLent tree cells ≡ true → sound (seen tree) ≡ true
+unfolding isLent isTree
+lent-sound tree cells h = and-right (same tree (formOf (seen tree))) _ (and-left (isTree tree) _ h)
+
+-- Nothing written, no cell changed.
+pub away : (cells out : List ℕ) (n : ℕ) → Serves (turnedAway cells n) out n 0 255 cells out
+away cells out n = record { number = refl; len = refl; acts = refl; cells = refl; bytes = sym (over-nil out) }
+
+pub turned : {w : Service} {out cells′ out′ : List ℕ} {n m len action : ℕ} → Serves w out n 0 255 cells′ out′ → m ≡ n → len ≡ 0 → action ≡ 255
+    → Serves w out m len action cells′ out′
+turned s e f g = record { number = e ∙ s .number; len = f ∙ s .len; acts = g ∙ s .acts; cells = s .cells; bytes = s .bytes }
+
+-- Rows 1 and 8 by the check and the room.
+module _ (tree cells : List ℕ) (room least : ℕ) {n : ℕ} (e : n ≡ lentNumber tree cells) where
+  row-by : (t : Bool) → isLent tree cells ≡ t → n ≡ cond t done unsound
+  unfolding lentNumber
+  row-by t h = e ∙ ap (λ b. cond b done unsound) h
+
+  pub row-unsound : (n ≡ done → ⊥) → unsound ≡ cond (isLent tree cells) (cond (ltb room least) noRoom done) unsound
+  row-unsound u = go (isLent tree cells) refl
+    where
+      go : (t : Bool) → isLent tree cells ≡ t → unsound ≡ cond t (cond (ltb room least) noRoom done) unsound
+      go true h = absurd (u (row-by true h))
+      go false h = refl
+
+  pub row-lent : n ≡ done → cond (ltb room least) noRoom done ≡ cond (isLent tree cells) (cond (ltb room least) noRoom done) unsound
+  row-lent d = go (isLent tree cells) refl
+    where
+      go : (t : Bool) → isLent tree cells ≡ t → cond (ltb room least) noRoom done ≡ cond t (cond (ltb room least) noRoom done) unsound
+      go true h = refl
+      go false h = absurd (omega (arith, d, row-by false h))
+
+-- The number of a reading is one of rows 2 to 7, or not.
+pub row-true : (n : ℕ) {t : Bool} → t ≡ (ltb 0 n && ltb n disabled) → t ≡ true → (0 < n) × (n < disabled)
+row-true n e h =
+    let both : (ltb 0 n && ltb n disabled) ≡ true = sym e ∙ h in
+    (ltb-true 0 n (and-left (ltb 0 n) (ltb n disabled) both), ltb-true n disabled (and-right (ltb 0 n) (ltb n disabled) both))
+
+pub row-false : (n : ℕ) {t : Bool} → t ≡ (ltb 0 n && ltb n disabled) → t ≡ false → 0 < n → disabled ≤ n
+row-false n e h p = ltb-false n disabled (sym (ap (λ b. b && ltb n disabled) (lt-ltb 0 n p)) ∙ sym e ∙ h)
+
+-- What a serving call is lent, and what it gives.
+pub record Call : Type 0 where
+  pub form : List ℕ → List ℕ
+  pub least : ℕ
+  pub room : ℕ
+  pub string : Received
+  pub host : Bool
+  pub tree : List ℕ
+  pub cells : List ℕ
+
+abbrev pub serving : Call → Service
+serving k = serve (k .form) (k .least) (k .room) (k .string) (k .host) (k .tree) (k .cells)
+
+abbrev pub lentRow : Call → ℕ
+lentRow k = cond (isLent (k .tree) (k .cells)) (cond (ltb (k .room) (k .least)) noRoom done) unsound
+
+abbrev pub answerTo : Call → Answer
+answerTo k = answer (seen (k .tree)) (cellsIn (k .cells)) (k .host) (k .string .payload)
+
+-- Its rows.
+module _ (k : Call) where
+  serve-by : (t u v : Bool) → isLent (k .tree) (k .cells) ≡ t → ltb (k .room) (k .least) ≡ u → eqb (k .string .number) done ≡ v
+      → serving k
+      ≡ cond t
+      (cond u (turnedAway (k .cells) noRoom) (cond v (inForm (k .form) (answerTo k)) (turnedAway (k .cells) (k .string .number))))
+      (turnedAway (k .cells) unsound)
+  unfolding serve
+  serve-by t u v e f g = rw (e, f, g)
+
+  gives-row : {n m : ℕ} → serving k ≡ turnedAway (k .cells) m → n ≡ m → (out : List ℕ) → Serves (serving k) out n 0 255 (k .cells) out
+  gives-row {n} e f out =
+      subst (λ s. Serves s out n 0 255 (k .cells) out) (sym e)
+      (subst (λ m. Serves (turnedAway (k .cells) m) out n 0 255 (k .cells) out) f (away (k .cells) out n))
+
+  -- Rows 1 and 8.
+  pub serve-unlent : {n : ℕ} → n ≡ lentRow k → (n ≡ done → ⊥) → (out : List ℕ) → Serves (serving k) out n 0 255 (k .cells) out
+  serve-unlent {n} e u out = go (isLent (k .tree) (k .cells)) (ltb (k .room) (k .least)) refl refl e
+    where
+      go : (t v : Bool) → isLent (k .tree) (k .cells) ≡ t → ltb (k .room) (k .least) ≡ v → n ≡ cond t (cond v noRoom done) unsound
+          → Serves (serving k) out n 0 255 (k .cells) out
+      go true true p q f = gives-row (serve-by true true (eqb (k .string .number) done) p q refl) f out
+      go true false p q f = absurd (u f)
+      go false v p q f = gives-row (serve-by false v (eqb (k .string .number) done) p q refl) f out
+
+  pub record Open : Type 0 where
+    pub lent : isLent (k .tree) (k .cells) ≡ true
+    pub roomy : k .least ≤ k .room
+
+  pub opened : {n : ℕ} → n ≡ lentRow k → n ≡ done → Open
+  opened {n} e d = go (isLent (k .tree) (k .cells)) (ltb (k .room) (k .least)) refl refl e
+    where
+      go : (t v : Bool) → isLent (k .tree) (k .cells) ≡ t → ltb (k .room) (k .least) ≡ v → n ≡ cond t (cond v noRoom done) unsound → Open
+      go true true p q f = absurd (omega (arith, f, d))
+      go true false p q f = record { lent = p; roomy = ltb-false (k .room) (k .least) q }
+      go false v p q f = absurd (omega (arith, f, d))
+
+  -- The rows of what was received, and the answer.
+  module _ (o : Open) where
+    pub serve-refused : {n : ℕ} → n ≡ k .string .number → (k .string .number ≡ done → ⊥) → (out : List ℕ) → Serves (serving k) out n 0 255 (k .cells) out
+    serve-refused e u out =
+        gives-row
+        (serve-by true false false (o .lent) (le-ltb (k .room) (k .least) (o .roomy)) (ne-eqb (k .string .number) done u)) e out
+
+    pub serve-answered : k .string .number ≡ done → {out cells′ out′ : List ℕ} {n size action : ℕ}
+        → Serves (inForm (k .form) (answerTo k)) out n size action cells′ out′ → Serves (serving k) out n size action cells′ out′
+    serve-answered d {out} {cells′} {out′} {n} {size} {action} s =
+        subst (λ w. Serves w out n size action cells′ out′)
+        (sym (serve-by true false true (o .lent) (le-ltb (k .room) (k .least) (o .roomy)) (eq-eqb (k .string .number) done d)))
+        s
+
+    -- Every reply can be framed.
+    pub replies : Sized (answerTo k .reply)
+    replies = reply-sized (seen (k .tree)) (lent-sound (k .tree) (k .cells) (o .lent)) (cellsIn (k .cells)) (k .host) (k .string .payload)
+
+  pub answered-as : {x : Asked} → x ≡ readRequest (k .string .payload) → {out cells′ out′ : List ℕ} {n size action : ℕ}
+      → Answers (answerAsked (seen (k .tree)) (cellsIn (k .cells)) (k .host) x) out n size action cells′ out′
+      → Answers (answerTo k) out n size action cells′ out′
+  answered-as e {out} {cells′} {out′} {n} {size} {action} h =
+      subst (λ a. Answers a out n size action cells′ out′)
+      (ap (answerAsked (seen (k .tree)) (cellsIn (k .cells)) (k .host)) e
+      ∙ answered-data (seen (k .tree)) (cellsIn (k .cells)) (k .host) (k .string .payload))
+      h
+
+-- An answer in the form of its road.
+module _ (a : Answer) {n size action : ℕ} {cells′ out out′ : List ℕ} (h : Answers a out n size action cells′ out′) where
+  pub as-data : Serves (inForm (λ reply. reply) a) out n size action cells′ out′
+  as-data =
+      record {
+        number = h .number;
+        len = h .reply .next ∙ zero-add (length (a .reply));
+        acts = h .acts;
+        cells = h .cells;
+        bytes = h .reply .bytes ∙ over-put (a .reply) out;
+      }
+
+  pub as-serial : Sized (a .reply) → (address : ℕ) {lent new : List ℕ} {m len : ℕ} → roomSerial ≤ length lent
+      → Emits (ifRoom roomSerial (length lent) (writeFrame address (take size out′))) lent m len new
+      → Serves (inForm (frame address) a) lent n len action cells′ new
+  as-serial sized address room e =
+      let w = emits-formed (frame address) roomSerial (a .reply) sized (put-front {ys = a .reply} (h .reply)) room e in
+      record { number = h .number; len = w .len; acts = h .acts; cells = h .cells; bytes = w .bytes }
+
+-- The reply behind its four zero bytes.
+abbrev pub zeros : List ℕ
+zeros = 0 ∷ 0 ∷ 0 ∷ 0 ∷ []
+
+pub as-udp : (a : Answer) {n size action front : ℕ} {cells′ lent part mid new : List ℕ} → 4 ≤ length lent
+    → Answers a (take (length lent - 4) (drop 4 lent)) n size action cells′ part
+    → mid ≡ putMid 4 (length lent - 4) lent part
+    → 4 ≤ length mid → Put 0 (fitting 0 zeros mid) mid front new
+    → Serves (inForm datagram a) lent n (front + size) action cells′ new
+as-udp a {size = size} {front = front} {lent = lent} {part = part} {mid = mid} {new = new} four h m k p =
+    let whole : Put 0 zeros mid front new = put-fits (omega arith) p in
+    let w = emits-datagram (a .reply) lent four (h .reply) (whole .bytes ∙ over-put zeros mid ∙ ap (over zeros) m) in
+    record {
+      number = h .number;
+      len = ap (λ k. k + size) (whole .next) ∙ w .len;
+      acts = h .acts;
+      cells = h .cells;
+      bytes = w .bytes;
+    }
+
+-- The reply of an answer lies within its 256 bytes.
+pub reply-within : (a : Answer) → Sized (a .reply) → {out cells′ out′ : List ℕ} {n size action : ℕ} → 256 ≤ length out
+    → Answers a out n size action cells′ out′ → size ≤ length out′
+reply-within a sized room h = omega (arith, put-room (h .reply) 0 (omega (arith, sized .most, room)))
