@@ -1,8 +1,8 @@
 -- The nodes' parents and depths, checked one after the other.
 -- Assumes nothing.
-use Prim.Native.Nat.{ℕ, zero, suc, _+_, _<_, _≤_}
+use Prim.Native.Nat.{ℕ, zero, suc, _<_, _≤_}
 use native.Mathlib.Omega.{arith}
-use mathlib.Core.Path.{_≡_, refl, sym, ap, ap₂, _∙_}
+use mathlib.Core.Path.{_≡_, refl, sym, ap, _∙_}
 use mathlib.Core.Bool.{Bool, true, false, _&&_}
 use mathlib.Core.List.{List, [], _∷_, _++_, map}
 use borrow.Author.Tests.{leb-true, ltb-true, le-leb, lt-ltb}
@@ -81,12 +81,12 @@ lineage-exact [] = refl
 lineage-exact (n ∷ ns) =
     alike _ _
     (λ h.
-      let both = lineage-sound ns (1 ∷ []) (and-right (eqb (n .parent) 0) _ h) (every-one shallow 1 refl) in
-      and-both (and-both (and-left (eqb (n .parent) 0) _ h) (both .0)) (both .1))
+    let both = lineage-sound ns (1 ∷ []) (and-right (eqb (n .parent) 0) _ h) (every-one shallow 1 refl) in
+    and-both (and-both (and-left (eqb (n .parent) 0) _ h) (both .0)) (both .1))
     (λ h.
-      let p = and-left (eqb (n .parent) 0 && parentsFrom 1 ns) _ h in
-      and-both (and-left (eqb (n .parent) 0) _ p)
-      (lineage-passes ns (1 ∷ []) (and-right (eqb (n .parent) 0) _ p) (and-right (eqb (n .parent) 0 && parentsFrom 1 ns) _ h)))
+    let p = and-left (eqb (n .parent) 0 && parentsFrom 1 ns) _ h in
+    and-both (and-left (eqb (n .parent) 0) _ p)
+    (lineage-passes ns (1 ∷ []) (and-right (eqb (n .parent) 0) _ p) (and-right (eqb (n .parent) 0 && parentsFrom 1 ns) _ h)))
 
 -- The parents that are seen in bytes.
 pub parents-seen : (bs : List ℕ) (n : ℕ) (r : List ℕ)

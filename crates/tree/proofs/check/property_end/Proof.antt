@@ -9,19 +9,16 @@ use Rattle.tree.specs.Form.{propertySize, propertiesStart}
 use Rattle.tree.specs.Seen.{halfAt, nodeCount}
 use Rattle.tree.specs.Check.{textsEndIn, nameRoom}
 use Rattle.tree.specs.Lent.{foundOf}
+use Rattle.tree.proofs.FoundLaws.{found-at}
 use Rattle.tree.proofs.TextLaws.{texts-within}
-use Rattle.tree.proofs.StepLaws.{found-at, property-unfit, property-elsewhere, property-unnamed, property-ends}
+use Rattle.tree.proofs.StepLaws.{property-unfit, property-elsewhere, property-unnamed, property-ends}
 use Rattle.tree.proofs.check.property_end.Statement.{statement}
 use Rattle.tree.proofs.check.property_end.Tie as tie
 
 -- Where the record says that its texts begin.
 half-is : (m : tie.After-half-at)
-    → m .half-at .result
-    ≡ halfAt
-    (propertiesStart (nodeCount (m .before .before .before .before .before .before .before .before .args .tree .now))
-    + m .before .before .before .before .before .before .before .before .args .k * propertySize
-    + 14)
-    (m .before .before .before .before .before .before .before .before .args .tree .now)
+    → let args = m .before .before .before .before .before .before .before .before .args in
+    m .half-at .result ≡ halfAt (propertiesStart (nodeCount (args .tree .now)) + args .k * propertySize + 14) (args .tree .now)
 half-is m =
     let start = m .before .before .before .before .before .before .before .before in
     m .half-at .ensures
