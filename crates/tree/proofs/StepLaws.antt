@@ -12,8 +12,9 @@ use borrow.Author.Tests.{leb-true, le-leb, eq-eqb, ne-eqb}
 use lib.ListN.{length, getD, drop}
 use lib.Seq.{drop-drop}
 use lib.Dec.{eqb, leb}
-use Rattle.protocol.specs.Numbers.{done, unsound, maxNodes, maxProperties, maxTexts}
-use Rattle.protocol.specs.Tree.{Property, canRead, canWrite, isLive, liveSound, propertyIn}
+use Rattle.protocol.specs.Numbers.{done, unsound, standard, enumeration, maxNodes, maxProperties, maxOption, maxTexts}
+use Rattle.protocol.specs.Bytes.{atMost}
+use Rattle.protocol.specs.Tree.{Property, isSigned, canRead, canWrite, isLive, liveSound, propertyIn}
 use Rattle.protocol.proofs.TestLaws.{and-left, and-right}
 use Rattle.tree.specs.declared.Found.{Found}
 use Rattle.tree.specs.declared.Found.the-variants.{At, Nothing}
@@ -130,6 +131,11 @@ pub live-by : (p : Property) {live reads writes : Bool} → isLive p ≡ live �
 unfolding liveSound
 live-by p {live} {reads} e f g =
     sym (ap₂ (λ l r. cond l (r && not (canWrite p)) true) e f ∙ ap (λ w. cond live (reads && not w) true) g)
+
+pub kind-by : (p : Property) {one two low : Bool} → eqb (p .kind) standard ≡ one → eqb (p .kind) enumeration ≡ two → eqb (p .min) 0 ≡ low
+    → cond one (atMost (isSigned p) (p .min) (p .max)) (two && (low && leb (p .max) maxOption)) ≡ kindFits p
+unfolding kindFits
+kind-by p e f g = rw (e, f, g)
 
 pub fields-same : (nodes : ℕ) {p : Property} {f : Fields} → FieldsAre p f → fieldsFit nodes (numbersOf f) ≡ fieldsFit nodes p
 unfolding fieldsFit liveSound kindFits

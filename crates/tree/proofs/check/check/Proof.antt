@@ -6,6 +6,7 @@ use borrow.Author.Needs.{needs}
 use lib.ListN.{length}
 use Rattle.tree.specs.Seen.{isTree, propertyCount}
 use Rattle.tree.specs.Cells.{cellsIn, hasCells}
+use Rattle.tree.proofs.SameLaws.{differ}
 use Rattle.tree.proofs.StepLaws.{lent-by}
 use Rattle.tree.proofs.check.check.Statement.{statement}
 use Rattle.tree.proofs.check.check.Tie as tie
@@ -62,7 +63,7 @@ returns-3 c =
     let args = celled .before .before .before .before .before .before .args in
     lent-by (args .tree .now) (args .cells .now) (tree-holds (celled .before .before)) (cells-hold celled)
     (ne-eqb (length (cellsIn (args .cells .now))) (propertyCount (args .tree .now))
-    (λ e. c .if3 .taken (cells-count (c .before) ∙ e ∙ sym (properties-count (c .before)))))
+    (differ (cells-count (c .before)) (properties-count (c .before)) (c .if3 .taken)))
 
 returns-4 : tie.Need-returns-4
 returns-4 c =
