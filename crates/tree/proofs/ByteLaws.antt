@@ -1,46 +1,26 @@
 -- The form of a sound tree is bytes.
 -- Assumes nothing.
-use Prim.Native.Nat.{ℕ, zero, suc, _+_, _<_, _≤_}
+use Prim.Native.Nat.{ℕ, suc, _+_, _<_, _≤_}
 use native.Mathlib.Omega.{arith}
 use native.Mathlib.Nat.{lt-of-lt-of-le}
-use mathlib.Core.Path.{_≡_, refl, sym, ap, subst, _∙_}
-use mathlib.Core.Bool.{Bool, true, false, cond, _&&_}
+use mathlib.Core.Path.{_≡_, refl, sym, _∙_}
+use mathlib.Core.Bool.{Bool, true, false, _&&_}
 use mathlib.Core.List.{List, [], _∷_, _++_}
 use borrow.Author.Tests.{leb-true, ltb-true, eqb-true, lt-ltb}
-use lib.ListN.{length, getD}
+use lib.ListN.{length}
 use lib.Dec.{eqb, leb, ltb}
-use Rattle.protocol.specs.Numbers.{byteEnd, firstCharacter, lastCharacter, standard, enumeration, maxName, maxOption}
-use Rattle.protocol.specs.Bytes.{Bytes, every, half, word, text, texts, atMost}
-use Rattle.protocol.specs.Tree.{Node, Property, Tree, isSigned, isCharacter, isText, isName, parentsFrom, parentsSound, liveSound, kindSound, optionsSound, widthsSound, propertySound, sound}
+use Rattle.protocol.specs.Numbers.{byteEnd, firstCharacter, lastCharacter, standard, enumeration, maxOption}
+use Rattle.protocol.specs.Bytes.{Bytes, every, half, word, text, texts}
+use Rattle.protocol.specs.Tree.{Node, Property, Tree, isCharacter, isText, isName, parentsFrom, parentsSound, liveSound, propertySound, sound}
 use Rattle.protocol.specs.Answer.{recordTexts}
 use Rattle.protocol.proofs.TestLaws.{and-left, and-right, and-both}
 use Rattle.protocol.proofs.ListLaws.{bytes-cons}
 use Rattle.tree.specs.Form.{allTexts, allRecords, nodeTexts, nodeRecord, propertyRecord, namesOf, labelsOf, namesStart, formOf}
 use Rattle.tree.specs.Check.{kindFits, fieldsFit}
-use Rattle.tree.proofs.PropertyLaws.{Kept, kept}
-use Rattle.tree.proofs.NodeLaws.{nodeGood}
+use Rattle.tree.proofs.NumberLaws.{bytes-none, bytes-append, half-bytes, word-bytes}
+use Rattle.tree.proofs.PropertyLaws.{fits-by, Kept, kept}
+use Rattle.tree.proofs.NodeLaws.{name-text, nodeGood}
 use Rattle.tree.proofs.FormLaws.{Sound, sound-parts}
-
-pub bytes-none : Bytes []
-bytes-none i = omega arith
-
-pub bytes-append : (x y : List ℕ) → Bytes x → Bytes y → Bytes (x ++ y)
-bytes-append [] y p q = q
-bytes-append (b ∷ x) y p q = bytes-cons b (x ++ y) (p 0) (bytes-append x y (λ i. p (suc i)) q)
-
-pub half-bytes : (n : ℕ) → Bytes (half n)
-unfolding half
-half-bytes n zero = omega arith
-half-bytes n (suc zero) = omega arith
-half-bytes n (suc (suc i)) = omega arith
-
-pub word-bytes : (n : ℕ) → Bytes (word n)
-unfolding word
-word-bytes n zero = omega arith
-word-bytes n (suc zero) = omega arith
-word-bytes n (suc (suc zero)) = omega arith
-word-bytes n (suc (suc (suc zero))) = omega arith
-word-bytes n (suc (suc (suc (suc i)))) = omega arith
 
 -- Texts.
 text-bytes : (s : List ℕ) → isText s ≡ true → Bytes (text s)
@@ -59,8 +39,7 @@ texts-bytes (s ∷ ss) h =
     (texts-bytes ss (and-right (isText s) (every isText ss) h))
 
 name-bytes : (s : List ℕ) → isName s ≡ true → Bytes (text s)
-unfolding isName
-name-bytes s h = text-bytes s (and-right (leb (length s) maxName) (isText s) h)
+name-bytes s h = text-bytes s (name-text s h)
 
 -- All texts and all records, if those of each entry are bytes.
 module _ {A : Type 0} (textsIn : A → List ℕ) (recordFor : ℕ → A → List ℕ) (ok : A → Bool) where
@@ -103,14 +82,12 @@ unfolding nodeRecord
 node-bytes at n h = bytes-cons (n .parent) (half at) (ltb-true (n .parent) byteEnd h) (half-bytes at)
 
 kind-byte : (p : Property) → kindFits p ≡ true → p .kind < byteEnd
-unfolding kindFits
-kind-byte p h = go (eqb (p .kind) standard) refl h
+kind-byte p h = go (eqb (p .kind) standard) refl
   where
-    go : (t : Bool) → eqb (p .kind) standard ≡ t
-        → cond t (atMost (isSigned p) (p .min) (p .max)) (eqb (p .kind) enumeration && (eqb (p .min) 0 && leb (p .max) maxOption)) ≡ true
-        → p .kind < byteEnd
-    go true e k = omega (arith, eqb-true (p .kind) standard e)
-    go false e k = omega (arith, eqb-true (p .kind) enumeration (and-left (eqb (p .kind) enumeration) _ k))
+    go : (t : Bool) → eqb (p .kind) standard ≡ t → p .kind < byteEnd
+    go true e = omega (arith, eqb-true (p .kind) standard e)
+    go false e =
+        omega (arith, eqb-true (p .kind) enumeration (and-left (eqb (p .kind) enumeration) (eqb (p .min) 0 && leb (p .max) maxOption) (sym (fits-by p false e) ∙ h)))
 
 property-bytes : (nodes at : ℕ) (p : Property) → nodes ≤ byteEnd → propertySound nodes p ≡ true → Bytes (propertyRecord at p)
 unfolding propertyRecord fieldsFit

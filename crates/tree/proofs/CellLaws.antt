@@ -7,14 +7,14 @@ use native.Mathlib.Decide.{decLt}
 use mathlib.Core.Path.{_≡_, refl, sym, ap, ap₂, subst, _∙_}
 use mathlib.Core.Bool.{Bool, true, false, cond, false≢true, and-false}
 use mathlib.Core.List.{List, [], _∷_, _++_, append-assoc}
-use mathlib.Core.Option.{none, some, Option·none-ne-some, Option·some-injective}
+use mathlib.Core.Option.{some, Option·some-injective}
 use borrow.Author.Tests.{ltb-true, lt-ltb, le-ltb}
 use borrow.Author.Count.{below-more}
 use lib.ListN.{length, getD, take, drop, set, length-drop, length-set, List·getD-eq-default}
 use lib.Seq.{getD-drop, getD-append-add, take-append-add, drop-append-add, set-out, set-set, getD-set-same, sets-eq}
 use lib.Dec.{eqb, ltb}
 use Rattle.protocol.specs.Numbers.{wordEnd, done, unsound, notLive}
-use Rattle.protocol.specs.Bytes.{Bytes, every, word, number, numberAfter}
+use Rattle.protocol.specs.Bytes.{Bytes, every, word, number}
 use Rattle.protocol.specs.Buffer.{putAt}
 use Rattle.protocol.specs.Tree.{Property, Tree, Cell, cellIn, cellsSound, isLive, propertyIn, posted, post}
 use Rattle.protocol.proofs.TestLaws.{and-left, and-right, and-both}
@@ -23,12 +23,14 @@ use Rattle.protocol.proofs.BufferLaws.{set-put, length-put}
 use Rattle.tree.specs.Seen.{wordAt, recordsFrom, same, seen, isTree}
 use Rattle.tree.specs.Cells.{cellSize, markOf, cellForm, cellsForm, cellSeen, cellsIn, hasCells, cellsOf, withWord, withMark}
 use Rattle.tree.specs.Lent.{isLent, lentNumber, postIn, Posts}
+use Rattle.tree.proofs.FoundLaws.{if-some}
 use Rattle.tree.proofs.RecordLaws.{records-length, records-at}
+use Rattle.tree.proofs.NumberLaws.{bytes-none, bytes-append, word-bytes, word-fits, word-behind}
 use Rattle.tree.proofs.SameLaws.{same-eq, same-refl}
 
 -- The words are of 32 bits.
-abbrev pub fitting : List Cell → Bool
-fitting cs = every (λ c. ltb (c .word) wordEnd) cs
+abbrev pub inWidth : List Cell → Bool
+inWidth cs = every (λ c. ltb (c .word) wordEnd) cs
 
 -- A form takes five bytes for each cell, and all of it is bytes.
 pub cells-size : (cs : List Cell) → length (cellsForm cs) ≡ length cs * cellSize
@@ -44,20 +46,16 @@ mark-byte : (t : Bool) → markOf t ≤ 1
 mark-byte true = omega arith
 mark-byte false = omega arith
 
-cell-bytes : (c : Cell) (bs : List ℕ) → Bytes bs → Bytes (cellForm c ++ bs)
-unfolding cellForm word
-cell-bytes c bs all =
-    let n : ℕ = c .word in
-    let e : List ℕ = markOf (c .ready) ∷ bs in
-    bytes-cons (n / 2 ^ 24 % 2 ^ 8) (n / 2 ^ 16 % 2 ^ 8 ∷ n / 2 ^ 8 % 2 ^ 8 ∷ n % 2 ^ 8 ∷ e) (omega arith)
-    (bytes-cons (n / 2 ^ 16 % 2 ^ 8) (n / 2 ^ 8 % 2 ^ 8 ∷ n % 2 ^ 8 ∷ e) (omega arith)
-    (bytes-cons (n / 2 ^ 8 % 2 ^ 8) (n % 2 ^ 8 ∷ e) (omega arith)
-    (bytes-cons (n % 2 ^ 8) e (omega arith) (bytes-cons (markOf (c .ready)) bs (omega (arith, mark-byte (c .ready))) all))))
+cell-bytes : (c : Cell) → Bytes (cellForm c)
+unfolding cellForm
+cell-bytes c =
+    bytes-append (word (c .word)) (markOf (c .ready) ∷ []) (word-bytes (c .word))
+    (bytes-cons (markOf (c .ready)) [] (omega (arith, mark-byte (c .ready))) bytes-none)
 
 pub cells-form-bytes : (cs : List Cell) → Bytes (cellsForm cs)
 unfolding cellsForm
-cells-form-bytes [] = λ i. omega arith
-cells-form-bytes (c ∷ cs) = cell-bytes c (cellsForm cs) (cells-form-bytes cs)
+cells-form-bytes [] = bytes-none
+cells-form-bytes (c ∷ cs) = bytes-append (cellForm c) (cellsForm cs) (cell-bytes c) (cells-form-bytes cs)
 
 -- How many cells bytes have room for.
 pub cells-count : (bs : List ℕ) → length (cellsIn bs) ≡ length bs / cellSize
@@ -77,64 +75,57 @@ behind : (c : Cell) (bs : List ℕ) → drop cellSize (cellForm c ++ bs) ≡ bs
 unfolding cellForm word
 behind c bs = refl
 
-all-back : (cs : List Cell) → fitting cs ≡ true → recordsFrom cellSize cellSeen (length cs) (cellsForm cs) ≡ cs
+all-back : (cs : List Cell) → inWidth cs ≡ true → recordsFrom cellSize cellSeen (length cs) (cellsForm cs) ≡ cs
 unfolding every cellsForm recordsFrom
 all-back [] h = refl
 all-back (c ∷ cs) h =
     ap₂ (λ x xs. x ∷ xs)
-    (cell-back c (cellsForm cs) (ltb-true (c .word) wordEnd (and-left (ltb (c .word) wordEnd) (fitting cs) h)))
+    (cell-back c (cellsForm cs) (ltb-true (c .word) wordEnd (and-left (ltb (c .word) wordEnd) (inWidth cs) h)))
     (ap (recordsFrom cellSize cellSeen (length cs)) (behind c (cellsForm cs))
-    ∙ all-back cs (and-right (ltb (c .word) wordEnd) (fitting cs) h))
+    ∙ all-back cs (and-right (ltb (c .word) wordEnd) (inWidth cs) h))
 
-pub cells-in-form : (cs : List Cell) → fitting cs ≡ true → cellsIn (cellsForm cs) ≡ cs
+pub cells-in-form : (cs : List Cell) → inWidth cs ≡ true → cellsIn (cellsForm cs) ≡ cs
 unfolding cellsIn
 cells-in-form cs h =
     let n : length (cellsForm cs) / cellSize ≡ length cs = omega (arith, cells-size cs) in
     ap (λ m. recordsFrom cellSize cellSeen m (cellsForm cs)) n ∙ all-back cs h
 
 -- Every state of cells has a form, which reads back.
-pub has-form : (cs : List Cell) → fitting cs ≡ true → hasCells (cellsForm cs) ≡ true
+pub has-form : (cs : List Cell) → inWidth cs ≡ true → hasCells (cellsForm cs) ≡ true
 unfolding hasCells
 has-form cs h = ap (λ l. same (cellsForm cs) (cellsForm l)) (cells-in-form cs h) ∙ same-refl (cellsForm cs)
 
-pub cells-back : (cs : List Cell) → fitting cs ≡ true → cellsOf (cellsForm cs) ≡ some cs
+pub cells-back : (cs : List Cell) → inWidth cs ≡ true → cellsOf (cellsForm cs) ≡ some cs
 unfolding cellsOf
 cells-back cs h = rw (has-form cs h) (ap some (cells-in-form cs h))
 
 pub cells-back-in : (t : Tree) (cs : List Cell) → cellsSound t cs ≡ true → cellsOf (cellsForm cs) ≡ some cs
 unfolding cellsSound
-cells-back-in t cs h = cells-back cs (and-right (eqb (length cs) (length (t .properties))) (fitting cs) h)
+cells-back-in t cs h = cells-back cs (and-right (eqb (length cs) (length (t .properties))) (inWidth cs) h)
 
 -- Bytes that have a form are the form of the cells in them, and the words of these are of 32 bits.
 pub form-of : (bs : List ℕ) → hasCells bs ≡ true → bs ≡ cellsForm (cellsIn bs)
 unfolding hasCells
 form-of bs h = same-eq bs (cellsForm (cellsIn bs)) h
 
-word-fits : (bs : List ℕ) → Bytes bs → cellSeen bs .word < wordEnd
-unfolding cellSeen wordAt numberAfter
-word-fits bs all = omega (arith, all 0, all 1, all 2, all 3)
-
-records-fit : (n : ℕ) (bs : List ℕ) → Bytes bs → fitting (recordsFrom cellSize cellSeen n bs) ≡ true
-unfolding every recordsFrom
+records-fit : (n : ℕ) (bs : List ℕ) → Bytes bs → inWidth (recordsFrom cellSize cellSeen n bs) ≡ true
+unfolding every recordsFrom cellSeen
 records-fit zero bs all = refl
 records-fit (suc n) bs all =
-    and-both (lt-ltb (cellSeen bs .word) wordEnd (word-fits bs all))
+    and-both (lt-ltb (wordAt 0 bs) wordEnd (word-fits 0 bs all))
     (records-fit n (drop cellSize bs) (bytes-drop cellSize bs all))
 
-pub cells-fit : (bs : List ℕ) → Bytes bs → fitting (cellsIn bs) ≡ true
+pub cells-fit : (bs : List ℕ) → Bytes bs → inWidth (cellsIn bs) ≡ true
 unfolding cellsIn
 cells-fit bs all = records-fit (length bs / cellSize) bs all
 
 -- Nothing without a form is served.
-pub cells-sound : (bs : List ℕ) (cs : List Cell) → Bytes bs → cellsOf bs ≡ some cs → (fitting cs ≡ true) × (bs ≡ cellsForm cs)
+pub cells-sound : (bs : List ℕ) (cs : List Cell) → Bytes bs → cellsOf bs ≡ some cs → (inWidth cs ≡ true) × (bs ≡ cellsForm cs)
 unfolding cellsOf
-cells-sound bs cs all h = go (hasCells bs) refl h
-  where
-    go : (t : Bool) → hasCells bs ≡ t → cond t (some (cellsIn bs)) none ≡ some cs → (fitting cs ≡ true) × (bs ≡ cellsForm cs)
-    go true e q =
-        let is : cellsIn bs ≡ cs = Option·some-injective _ _ q in
-        (ap fitting (sym is) ∙ cells-fit bs all, form-of bs e ∙ ap cellsForm is)
-    go false e q = absurd (Option·none-ne-some _ q)
+cells-sound bs cs all h =
+    let both = if-some (hasCells bs) h in
+    let is : cellsIn bs ≡ cs = Option·some-injective _ _ (both .1) in
+    (ap inWidth (sym is) ∙ cells-fit bs all, form-of bs (both .0) ∙ ap cellsForm is)
 
 -- The check: whole cells, and marks of 0 and 1.
 mark-at : (cs : List Cell) (k : ℕ) → getD (cellsForm cs) (k * cellSize + 4) 0 ≤ 1
@@ -228,15 +219,12 @@ pub no-cell : (bs : List ℕ) (k : ℕ) → length bs / cellSize ≤ k → cellI
 no-cell bs k h =
     List·getD-eq-default (cellsIn bs) (record { word = 0; ready = false }) (omega (arith, h, cells-count bs))
 
-word-drop : (n : ℕ) (bs : List ℕ) → wordAt 0 (drop n bs) ≡ wordAt n bs
-unfolding wordAt
-word-drop n bs =
-    rw (getD-drop n bs 0 0, getD-drop n bs 1 0, getD-drop n bs 2 0, getD-drop n bs 3 0)
-    (ap (λ i. number (getD bs i 0 ∷ getD bs (n + 1) 0 ∷ getD bs (n + 2) 0 ∷ getD bs (n + 3) 0 ∷ [])) (add-zero n))
-
 pub read-word : (bs : List ℕ) (k : ℕ) → k < length bs / cellSize → wordAt (k * cellSize) bs ≡ cellIn (cellsIn bs) k .word
 unfolding cellSeen
-read-word bs k h = sym (ap (λ c. c .word) (cell-at bs k h) ∙ word-drop (k * cellSize) bs)
+read-word bs k h =
+    sym (ap (λ c. c .word) (cell-at bs k h)
+    ∙ word-behind (k * cellSize) bs 0
+    ∙ ap (λ n. wordAt n bs) (add-zero (k * cellSize)))
 
 pub read-mark : (bs : List ℕ) (k : ℕ) → k < length bs / cellSize → eqb (getD bs (k * cellSize + 4) 0) 1 ≡ cellIn (cellsIn bs) k .ready
 unfolding cellSeen
@@ -421,9 +409,9 @@ module _ (t : Tree) (cs : List Cell) (k w : ℕ) (ready : Bool) where
 
 -- Lent bytes that passed the check.
 module _ (tree cells : List ℕ) where
-  pub lent-by : {n : ℕ} → n ≡ lentNumber tree cells → n ≡ done → isLent tree cells ≡ true
+  pub lent-done : {n : ℕ} → n ≡ lentNumber tree cells → n ≡ done → isLent tree cells ≡ true
   unfolding lentNumber
-  lent-by {n} e h = go (isLent tree cells) refl
+  lent-done {n} e h = go (isLent tree cells) refl
     where
       go : (t : Bool) → isLent tree cells ≡ t → isLent tree cells ≡ true
       go true q = q

@@ -1,16 +1,14 @@
 -- The check, step by step, comes to what it is for: bytes pass it exactly where they stand for a sound tree.
 -- Assumes nothing.
-use Prim.Native.Nat.{ℕ, zero, suc, _+_, _*_, _<_, _≤_}
+use Prim.Native.Nat.{ℕ, _+_, _*_}
 use native.Mathlib.Omega.{arith}
-use mathlib.Core.Path.{_≡_, refl, sym, ap, ap₂, subst, _∙_}
-use mathlib.Core.Bool.{Bool, true, false, _&&_, false≢true}
-use mathlib.Core.List.{List, [], _∷_, _++_}
+use mathlib.Core.Path.{_≡_, sym, ap, ap₂, _∙_}
+use mathlib.Core.Bool.{true, _&&_, false≢true}
+use mathlib.Core.List.{List, _∷_, _++_}
 use mathlib.Core.Option.{Option, none, some}
-use borrow.Author.Tests.{leb-true, eqb-true}
-use lib.ListN.{length, getD, take, drop, take-append-drop, length-drop}
+use borrow.Author.Tests.{eqb-true}
+use lib.ListN.{length, take, drop, take-append-drop, length-drop}
 use lib.Seq.{drop-cons, drop-drop, take-all}
-use lib.Dec.{eqb, leb}
-use Rattle.protocol.specs.Numbers.{maxNodes, maxProperties}
 use Rattle.protocol.specs.Bytes.{Bytes, every}
 use Rattle.protocol.specs.Tree.{Node, Property, parentsSound, depthsSound, propertySound, sound}
 use Rattle.protocol.specs.Answer.{recordTexts}
@@ -19,33 +17,15 @@ use Rattle.protocol.proofs.ListLaws.{bytes-drop}
 use Rattle.tree.specs.Form.{nodeSize, propertySize, propertiesStart, textsStart, allTexts, allRecords, nodeTexts, nodeRecord, propertyRecord, formOf}
 use Rattle.tree.specs.Seen.{recordsFrom, nodeSeen, propertySeen, seen, nodeCount, propertyCount, same, isTree}
 use Rattle.tree.specs.Check.{nodeEnd, propertyEnd, recordsEnd, lineageSound, parentsIn, countsFit, textsFit, endsAt, checked}
-use Rattle.tree.proofs.RecordLaws.{records-length}
+use Rattle.tree.proofs.FoundLaws.{then-back}
+use Rattle.tree.proofs.FieldLaws.{node-count, property-count}
 use Rattle.tree.proofs.SameLaws.{same-eq, same-refl}
-use Rattle.tree.proofs.TableLaws.{Laid, laid, then-back}
+use Rattle.tree.proofs.TableLaws.{Laid, laid}
 use Rattle.tree.proofs.NodeLaws.{nodeGood, node-laid}
 use Rattle.tree.proofs.PropertyLaws.{propertyGood, property-laid}
 use Rattle.tree.proofs.DepthLaws.{alike, lineage-exact, parents-seen}
-use Rattle.tree.proofs.FormLaws.{Sound, sound-parts, sound-whole, form-checked}
-
--- What the counts tell.
-record Counted (bs : List ℕ) : Type 0 where
-  two : 2 ≤ length bs
-  nodes : nodeCount bs ≤ maxNodes
-  properties : propertyCount bs ≤ maxProperties
-  records : textsStart (nodeCount bs) (propertyCount bs) ≤ length bs
-
-counts : (bs : List ℕ) → countsFit bs ≡ true → Counted bs
-unfolding countsFit
-counts bs h =
-    let a = and-right (leb 2 (length bs)) _ h in
-    let b = and-right (leb (nodeCount bs) maxNodes) _ a in
-    record {
-      two = leb-true 2 (length bs) (and-left (leb 2 (length bs)) _ h);
-      nodes = leb-true (nodeCount bs) maxNodes (and-left (leb (nodeCount bs) maxNodes) _ a);
-      properties = leb-true (propertyCount bs) maxProperties (and-left (leb (propertyCount bs) maxProperties) _ b);
-      records =
-          leb-true (textsStart (nodeCount bs) (propertyCount bs)) (length bs) (and-right (leb (propertyCount bs) maxProperties) _ b);
-    }
+use Rattle.tree.proofs.StepLaws.{Counted, counts}
+use Rattle.tree.proofs.FormLaws.{sound-parts, sound-whole, form-checked}
 
 ends-there : (o : Option ℕ) (n : ℕ) → endsAt o n ≡ true → o ≡ some n
 ends-there none n h = absurd (false≢true h)
@@ -133,12 +113,6 @@ module _ (bs : List ℕ) (all : Bytes bs) (h : checked bs ≡ true) where
       ∙ ap₂ (λ a b. a ++ b) (p .bytes ∙ ap (λ k. allRecords recordTexts propertyRecord k properties) (q .ends))
       (parted (length names) start bs ∙ ap₂ (λ a b. a ++ b) (q .texts) labels-last))
 
-  node-count : length nodes ≡ n
-  node-count = records-length nodeSize (nodeSeen bs) n (drop 2 bs)
-
-  property-count : length properties ≡ m
-  property-count = records-length propertySize (propertySeen bs) m (drop (propertiesStart n) bs)
-
   formed : bs ≡ formOf (seen bs)
   unfolding formOf seen
   formed =
@@ -146,7 +120,7 @@ module _ (bs : List ℕ) (all : Bytes bs) (h : checked bs ≡ true) where
       ∙ ap (λ l. n ∷ m ∷ l) tables
       ∙ ap₂
       (λ k j. k ∷ j ∷ (allRecords nodeTexts nodeRecord (textsStart k j) nodes ++ (allRecords recordTexts propertyRecord (textsStart k j + length names) properties ++ (names ++ labels))))
-      (sym node-count) (sym property-count)
+      (sym (node-count bs)) (sym (property-count bs))
 
   lineage-whole : (parentsSound nodes && depthsSound nodes) ≡ true
   lineage-whole = sym (lineage-exact nodes) ∙ ap lineageSound (sym (parents-seen bs n (drop 2 bs))) ∙ lineage-passed
@@ -156,12 +130,12 @@ module _ (bs : List ℕ) (all : Bytes bs) (h : checked bs ≡ true) where
   sound-seen =
       sound-whole (seen bs)
       (record {
-        nodes = omega (arith, node-count, counted .nodes);
+        nodes = omega (arith, node-count bs, counted .nodes);
         parents = and-left (parentsSound nodes) _ lineage-whole;
         depths = and-right (parentsSound nodes) _ lineage-whole;
         names = whole .of-nodes .good;
-        properties = omega (arith, property-count, counted .properties);
-        each = ap (λ k. every (propertySound k) properties) node-count ∙ whole .of-properties .good;
+        properties = omega (arith, property-count bs, counted .properties);
+        each = ap (λ k. every (propertySound k) properties) (node-count bs) ∙ whole .of-properties .good;
       })
 
   passed : isTree bs ≡ true

@@ -2,16 +2,16 @@
 -- Assumes nothing.
 use Prim.Native.Nat.{ℕ, suc, _+_, _*_, _%_, _<_, _≤_}
 use native.Mathlib.Omega.{arith}
-use native.Mathlib.Nat.{add-assoc, add-zero}
+use native.Mathlib.Nat.{add-zero}
 use native.Mathlib.Numerals.{add-one}
 use mathlib.Core.Path.{_≡_, refl, sym, ap, ap₂, subst, _∙_}
 use mathlib.Core.Bool.{Bool, true, false, cond}
-use mathlib.Core.List.{List, [], _∷_, _++_, append-nil}
+use mathlib.Core.List.{List, [], _++_, append-nil}
 use lib.ListN.{length, getD, take, drop, List·getD-eq-default}
 use lib.Seq.{getD-drop, drop-drop, drop-length}
 use lib.Dec.{eqb}
 use Rattle.protocol.specs.Numbers.{enumeration}
-use Rattle.protocol.specs.Bytes.{Bytes, number, text, texts}
+use Rattle.protocol.specs.Bytes.{Bytes, text, texts}
 use Rattle.protocol.specs.Buffer.{Put}
 use Rattle.protocol.specs.Request.{beforeZero}
 use Rattle.protocol.specs.Tree.{Node, Property, Tree, nodeIn, propertyIn}
@@ -21,21 +21,8 @@ use Rattle.tree.specs.Form.{nodeSize, propertySize, propertiesStart}
 use Rattle.tree.specs.Seen.{halfAt, wordAt, firstText, afterText, textsFrom, nodeSeen, propertySeen, optionCount, nodeCount, propertyCount, seen}
 use Rattle.tree.specs.Lent.{FieldsAre}
 use Rattle.tree.proofs.RecordLaws.{records-length, records-at}
-
--- Numbers behind a place.
-module _ (n : ℕ) (bs : List ℕ) (i : ℕ) where
-  byte-behind : (k : ℕ) → getD (drop n bs) (i + k) 0 ≡ getD bs (n + i + k) 0
-  byte-behind k = getD-drop n bs (i + k) 0 ∙ ap (λ m. getD bs m 0) (sym (add-assoc n i k))
-
-  pub half-behind : halfAt i (drop n bs) ≡ halfAt (n + i) bs
-  unfolding halfAt
-  half-behind = ap₂ (λ a b. number (a ∷ b ∷ [])) (getD-drop n bs i 0) (byte-behind 1)
-
-  pub word-behind : wordAt i (drop n bs) ≡ wordAt (n + i) bs
-  unfolding wordAt
-  word-behind =
-      ap₂ (λ a b. number (a ∷ b ∷ getD (drop n bs) (i + 2) 0 ∷ getD (drop n bs) (i + 3) 0 ∷ [])) (getD-drop n bs i 0) (byte-behind 1)
-      ∙ ap₂ (λ c d. number (getD bs (n + i) 0 ∷ getD bs (n + i + 1) 0 ∷ c ∷ d ∷ [])) (byte-behind 2) (byte-behind 3)
+use Rattle.tree.proofs.NumberLaws.{half-behind, word-behind}
+use Rattle.tree.proofs.NodeLaws.{texts-one}
 
 -- Where the record of a node begins, and that of a property.
 abbrev nodePlace : ℕ → ℕ
@@ -59,6 +46,17 @@ noNode = nodeIn emptyTree 0
 abbrev noProperty : Property
 noProperty = propertyIn emptyTree 0
 
+-- How many nodes and properties are seen.
+module _ (bs : List ℕ) where
+  pub node-count : length (seen bs .nodes) ≡ nodeCount bs
+  unfolding seen
+  node-count = records-length nodeSize (nodeSeen bs) (nodeCount bs) (drop 2 bs)
+
+  pub property-count : length (seen bs .properties) ≡ propertyCount bs
+  unfolding seen
+  property-count =
+      records-length propertySize (propertySeen bs) (propertyCount bs) (drop (propertiesStart (nodeCount bs)) bs)
+
 -- What stands at a place of a tree that is seen.
 module _ (bs : List ℕ) (place : ℕ) where
   pub node-at : place < nodeCount bs → nodeIn (seen bs) place ≡ nodeSeen bs (drop (nodePlace place) bs)
@@ -68,10 +66,7 @@ module _ (bs : List ℕ) (place : ℕ) where
       ∙ ap (nodeSeen bs) (drop-drop (place * nodeSize) 2 bs)
 
   pub node-none : nodeCount bs ≤ place → nodeIn (seen bs) place ≡ noNode
-  unfolding seen
-  node-none h =
-      List·getD-eq-default (seen bs .nodes) noNode {n = place}
-      (omega (arith, records-length nodeSize (nodeSeen bs) (nodeCount bs) (drop 2 bs)))
+  node-none h = List·getD-eq-default (seen bs .nodes) noNode {n = place} (omega (arith, node-count bs))
 
   pub property-at : place < propertyCount bs → propertyIn (seen bs) place ≡ propertySeen bs (drop (propertyPlace bs place) bs)
   unfolding seen
@@ -80,13 +75,7 @@ module _ (bs : List ℕ) (place : ℕ) where
       ∙ ap (propertySeen bs) (drop-drop (place * propertySize) (propertiesStart (nodeCount bs)) bs)
 
   pub property-none : propertyCount bs ≤ place → propertyIn (seen bs) place ≡ noProperty
-  unfolding seen
-  property-none h =
-      List·getD-eq-default (seen bs .properties) noProperty {n = place}
-      (omega (
-        arith,
-        records-length propertySize (propertySeen bs) (propertyCount bs) (drop (propertiesStart (nodeCount bs)) bs),
-      ))
+  property-none h = List·getD-eq-default (seen bs .properties) noProperty {n = place} (omega (arith, property-count bs))
 
 -- A property has few options.
 pub options-few : (kind max : ℕ) → optionCount kind max ≤ 16
@@ -134,16 +123,22 @@ module _ (bs : List ℕ) (place : ℕ) where
 
 -- Texts of bytes: one, one and more behind it, and one where the bytes have ended.
 text-first : (bs : List ℕ) → texts (textsFrom 1 bs) ≡ text (firstText bs)
-unfolding texts textsFrom
-text-first bs = append-nil (text (firstText bs))
+unfolding textsFrom
+text-first bs = texts-one (firstText bs)
 
-texts-more : (n : ℕ) (bs : List ℕ) → texts (textsFrom (n + 1) bs) ≡ text (firstText bs) ++ texts (textsFrom n (afterText bs))
+texts-rest : (n : ℕ) (bs : List ℕ) → texts (textsFrom (n + 1) bs) ≡ text (firstText bs) ++ texts (textsFrom n (afterText bs))
 unfolding texts textsFrom
-texts-more n bs = ap (λ m. texts (textsFrom m bs)) (add-one n)
+texts-rest n bs = ap (λ m. texts (textsFrom m bs)) (add-one n)
 
 text-ended : (bs : List ℕ) → texts (textsFrom 1 (drop (length bs) bs)) ≡ text []
 unfolding texts textsFrom beforeZero
 text-ended bs = text-first (drop (length bs) bs) ∙ ap (λ l. text (firstText l)) (drop-length bs)
+
+-- Where a node's record says that its name lies.
+pub name-place : (bs : List ℕ) (place : ℕ) → halfAt 1 (drop (nodePlace place) bs) ≡ halfAt (3 + place * nodeSize) bs
+name-place bs place =
+    let n : nodePlace place + 1 ≡ 3 + place * nodeSize = omega arith in
+    half-behind (nodePlace place) bs 1 ∙ ap (λ m. halfAt m bs) n
 
 -- A node's name, and a property's texts.
 module _ (bs : List ℕ) (place : ℕ) where
@@ -151,9 +146,8 @@ module _ (bs : List ℕ) (place : ℕ) where
       → texts (textsFrom 1 (drop from bs)) ≡ text (nodeIn (seen bs) place .name)
   unfolding nodeSeen
   name-at {from} h e =
-      let n : 3 + place * nodeSize ≡ nodePlace place + 1 = omega arith in
       text-first (drop from bs)
-      ∙ ap (λ i. text (firstText (drop i bs))) (e ∙ ap (λ m. halfAt m bs) n ∙ sym (half-behind (nodePlace place) bs 1))
+      ∙ ap (λ i. text (firstText (drop i bs))) (e ∙ sym (name-place bs place))
       ∙ sym (ap (λ x. text (x .name)) (node-at bs place h))
 
   pub name-none : nodeCount bs ≤ place → texts (textsFrom 1 (drop (length bs) bs)) ≡ text (nodeIn (seen bs) place .name)
@@ -172,7 +166,7 @@ module _ (bs : List ℕ) (place : ℕ) where
       p ∙ sym (ap₂ optionCount (getD-drop at bs 1 0) (word-behind at bs 6)) in
       let label : from ≡ halfAt 14 r = q ∙ sym (half-behind at bs 14) in
       ap₂ (λ n i. texts (textsFrom (n + 1) (drop i bs))) options label
-      ∙ texts-more (optionCount (getD r 1 0) (wordAt 6 r)) (drop (halfAt 14 r) bs)
+      ∙ texts-rest (optionCount (getD r 1 0) (wordAt 6 r)) (drop (halfAt 14 r) bs)
       ∙ ap (λ n. recordTexts (propertySeen bs (drop (n + place * propertySize) bs))) e
       ∙ sym (ap recordTexts (property-at bs place h))
 

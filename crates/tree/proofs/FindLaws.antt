@@ -2,33 +2,21 @@
 -- Assumes nothing.
 use Prim.Native.Nat.{ℕ, zero, suc, _+_, _-_, _*_, _<_, _≤_}
 use native.Mathlib.Omega.{arith}
-use native.Mathlib.Nat.{add-zero}
 use native.Mathlib.Numerals.{add-one}
 use mathlib.Core.Path.{_≡_, refl, sym, ap, ap₂, subst, _∙_}
 use mathlib.Core.Bool.{Bool, true, false, cond}
 use mathlib.Core.List.{List, [], _∷_, _++_}
-use mathlib.Core.Option.{Option, none, some}
+use mathlib.Core.Option.{none, some}
 use borrow.Author.Tests.{eq-eqb, ne-eqb}
 use lib.ListN.{length, getD, drop, length-append, drop-of-length-le}
-use lib.Seq.{drop-cons, getD-drop}
+use lib.Seq.{drop-cons}
 use lib.Dec.{eqb}
 use Rattle.protocol.specs.Bytes.{Bytes}
 use Rattle.protocol.specs.Tree.{Tree, placesFrom, numbered, childrenOf, propertiesOf, childOf, descend, nodeAt}
 use Rattle.tree.specs.declared.find.Table.{Table}
-use Rattle.tree.specs.declared.Found.the-variants.{At, Nothing}
 use Rattle.tree.specs.Seen.{recordsFrom, seen, nodeSeen, propertySeen}
 use Rattle.tree.specs.Find.{belonging, childrenTable, propertiesTable}
-use Rattle.tree.specs.Lent.{foundOf}
-use Rattle.tree.proofs.RecordLaws.{records-length, records-at, records-drop, records-places}
-
--- A place that was found, and none.
-pub found-some : (o : Option ℕ) {k : ℕ} → At k ≡ foundOf o → o ≡ some k
-found-some none h = cc
-found-some (some n) h = cc
-
-pub found-none : (o : Option ℕ) → Nothing ≡ foundOf o → o ≡ none
-found-none none h = refl
-found-none (some n) h = cc
+use Rattle.tree.proofs.RecordLaws.{records-length, first-at, records-drop, records-places}
 
 -- The first bytes of the records of a table, and the places from k on of those that name a node.
 abbrev column : List ℕ → Table → List ℕ
@@ -43,11 +31,7 @@ names bs table node k = eqb (getD bs (table .start + k * table .size) 0) node
 
 module _ (bs : List ℕ) (table : Table) (node k : ℕ) where
   column-at : k < table .end → getD (column bs table) k 0 ≡ getD bs (table .start + k * table .size) 0
-  column-at h =
-      records-at (table .size) (λ r. getD r 0 0) (table .end) (drop (table .start) bs) k 0 h
-      ∙ getD-drop (k * table .size) (drop (table .start) bs) 0 0
-      ∙ getD-drop (table .start) bs (k * table .size + 0) 0
-      ∙ ap (λ n. getD bs (table .start + n) 0) (add-zero (k * table .size))
+  column-at h = first-at (table .size) (table .end) (table .start) bs k h
 
   column-length : length (column bs table) ≡ table .end
   column-length = records-length (table .size) (λ r. getD r 0 0) (table .end) (drop (table .start) bs)

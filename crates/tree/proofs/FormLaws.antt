@@ -1,27 +1,27 @@
 -- The form of a sound tree reads back as that tree.
 -- Assumes nothing.
-use Prim.Native.Nat.{ℕ, zero, suc, _+_, _*_, _<_, _≤_}
+use Prim.Native.Nat.{ℕ, _+_, _*_, _<_, _≤_}
 use native.Mathlib.Omega.{arith}
-use native.Mathlib.Nat.{add-zero}
 use mathlib.Core.Path.{_≡_, refl, sym, ap, ap₂, _∙_}
-use mathlib.Core.Bool.{Bool, true, false, cond, _&&_}
-use mathlib.Core.List.{List, [], _∷_, _++_, append-nil, map}
-use mathlib.Core.Option.{Option, none, some, Option·none-ne-some, Option·some-injective}
+use mathlib.Core.Bool.{true, cond, _&&_}
+use mathlib.Core.List.{List, [], _++_, append-nil, map}
+use mathlib.Core.Option.{none, some, Option·some-injective}
 use borrow.Author.Tests.{leb-true, le-leb, eq-eqb}
-use lib.ListN.{length, getD, take, drop, length-append}
+use lib.ListN.{length, getD, drop, length-append}
 use lib.Seq.{drop-drop, drop-at}
-use lib.Dec.{eqb, leb}
-use Rattle.protocol.specs.Numbers.{halfEnd, maxName, maxNodes, maxProperties, maxTexts}
+use lib.Dec.{leb}
+use Rattle.protocol.specs.Numbers.{halfEnd, maxNodes, maxProperties}
 use Rattle.protocol.specs.Bytes.{every, text, texts}
-use Rattle.protocol.specs.Tree.{Node, Property, Tree, isName, isText, parentsSound, depthsSound, propertySound, nodesSound, propertiesSound, sound}
+use Rattle.protocol.specs.Tree.{Property, Tree, isName, parentsSound, depthsSound, propertySound, nodesSound, propertiesSound, sound}
 use Rattle.protocol.specs.Answer.{recordTexts}
 use Rattle.protocol.proofs.TestLaws.{and-left, and-right, and-both}
-use Rattle.tree.specs.Form.{nodeSize, propertySize, propertiesStart, textsStart, allTexts, allRecords, nodeTexts, nodeRecord, propertyRecord, namesOf, labelsOf, namesStart, formOf}
+use Rattle.tree.specs.Form.{nodeSize, propertySize, propertiesStart, textsStart, allRecords, nodeTexts, nodeRecord, propertyRecord, namesOf, labelsOf, namesStart, formOf}
 use Rattle.tree.specs.Seen.{recordsFrom, nodeSeen, propertySeen, seen, nodeCount, propertyCount, same, isTree, treeOf}
-use Rattle.tree.specs.Check.{nodeEnd, propertyEnd, recordsEnd, lineageSound, parentsIn, countsFit, textsFit, endsAt, checked}
+use Rattle.tree.specs.Check.{nameRoom, nodeEnd, propertyEnd, recordsEnd, lineageSound, parentsIn, countsFit, textsFit, endsAt, checked}
+use Rattle.tree.proofs.FoundLaws.{if-some, then-some}
 use Rattle.tree.proofs.SameLaws.{same-refl, same-eq}
-use Rattle.tree.proofs.TableLaws.{records-size, read-again, end-again, then-some, texts-bound}
-use Rattle.tree.proofs.NodeLaws.{nodeGood, node-written, length-text}
+use Rattle.tree.proofs.TableLaws.{records-size, read-again, end-again, texts-bound}
+use Rattle.tree.proofs.NodeLaws.{length-text, name-short, nodeGood, node-written}
 use Rattle.tree.proofs.PropertyLaws.{Kept, kept, propertyGood, property-written}
 use Rattle.tree.proofs.DepthLaws.{lineage-exact, parents-seen}
 
@@ -56,23 +56,16 @@ sound-whole t s =
     and-both (and-both (le-leb (length (t .nodes)) maxNodes (s .nodes)) (and-both (s .parents) (and-both (s .depths) (s .names))))
     (and-both (le-leb (length (t .properties)) maxProperties (s .properties)) (s .each))
 
--- A tree that is there only if a test passed.
-if-tree : (b : Bool) {s t : Tree} → cond b (some s) none ≡ some t → (b ≡ true) × (s ≡ t)
-if-tree true h = (refl, Option·some-injective _ _ h)
-if-tree false h = absurd (Option·none-ne-some _ h)
-
 -- No text is long.
-name-short : (n : Node) → nodeGood n ≡ true → length (nodeTexts n) ≤ 24
-unfolding isName
-name-short n h =
-    omega (arith, length-text (n .name), leb-true (length (n .name)) maxName (and-left (leb (length (n .name)) maxName) (isText (n .name)) h))
+name-fits : (s : List ℕ) → isName s ≡ true → length (text s) ≤ nameRoom
+name-fits s h = omega (arith, length-text s, name-short s h)
 
-label-short : (nodes : ℕ) (p : Property) → propertySound nodes p ≡ true → length (recordTexts p) ≤ 184
-label-short nodes p h =
+texts-fit : (nodes : ℕ) (p : Property) → propertySound nodes p ≡ true → length (recordTexts p) ≤ 184
+texts-fit nodes p h =
     let k : Kept nodes p = kept nodes p h in
     omega (
       arith,
-      name-short (record { parent = 0; name = p .label }) (k .label),
+      name-fits (p .label) (k .label),
       k .room,
       length-append (text (p .label)) (texts (p .options)),
     )
@@ -103,8 +96,8 @@ module _ (t : Tree) (ok : Sound t) where
         arith,
         ok .nodes,
         ok .properties,
-        texts-bound nodeTexts nodeGood 24 name-short (t .nodes) (ok .names),
-        texts-bound recordTexts (propertySound n) 184 (label-short n) (t .properties) (ok .each),
+        texts-bound nodeTexts nodeGood nameRoom (λ x. name-fits (x .name)) (t .nodes) (ok .names),
+        texts-bound recordTexts (propertySound n) 184 (texts-fit n) (t .properties) (ok .each),
       )
 
   -- The parts of a form, from their places on.
@@ -229,8 +222,9 @@ form-tree t h =
 pub tree-sound : (bs : List ℕ) (t : Tree) → treeOf bs ≡ some t → (sound t ≡ true) × (bs ≡ formOf t)
 unfolding treeOf isTree
 tree-sound bs t h =
-    let both = if-tree (same bs (formOf (seen bs)) && sound (seen bs)) h in
+    let both = if-some (same bs (formOf (seen bs)) && sound (seen bs)) h in
+    let is : seen bs ≡ t = Option·some-injective _ _ (both .1) in
     let passed = both .0 in (
-      ap sound (sym (both .1)) ∙ and-right (same bs (formOf (seen bs))) _ passed,
-      same-eq bs (formOf (seen bs)) (and-left (same bs (formOf (seen bs))) _ passed) ∙ ap formOf (both .1),
+      ap sound (sym is) ∙ and-right (same bs (formOf (seen bs))) _ passed,
+      same-eq bs (formOf (seen bs)) (and-left (same bs (formOf (seen bs))) _ passed) ∙ ap formOf is,
     )

@@ -1,4 +1,5 @@
 -- Laws of the lent forms, and what the proofs of this crate's functions apply to the places of their code.
+pub mod FoundLaws
 pub mod RecordLaws
 pub mod SameLaws
 pub mod ScanLaws

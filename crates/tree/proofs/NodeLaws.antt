@@ -1,29 +1,25 @@
 -- A node's record and its name: read from bytes that end well, and written.
 -- Assumes nothing.
-use Prim.Native.Nat.{ℕ, zero, suc, _+_, _<_, _≤_}
+use Prim.Native.Nat.{ℕ, suc, _+_, _<_, _≤_}
 use native.Mathlib.Omega.{arith}
-use mathlib.Core.Path.{_≡_, refl, sym, ap, ap₂, subst, _∙_}
-use mathlib.Core.Bool.{Bool, true, false, cond, _&&_}
+use mathlib.Core.Path.{_≡_, refl, sym, ap, subst, _∙_}
+use mathlib.Core.Bool.{Bool, true, cond}
 use mathlib.Core.List.{List, [], _∷_, _++_, append-nil}
-use mathlib.Core.Option.{Option, none, some, Option·none-ne-some}
+use mathlib.Core.Option.{none, some}
 use borrow.Author.Tests.{eqb-true, leb-true, eq-eqb, le-leb}
 use lib.ListN.{length, getD, take, drop, length-append}
 use lib.Dec.{eqb, leb}
 use Rattle.protocol.specs.Numbers.{halfEnd, maxName}
-use Rattle.protocol.specs.Bytes.{Bytes, every, half, number, text, texts}
+use Rattle.protocol.specs.Bytes.{Bytes, every, half, text, texts}
 use Rattle.protocol.specs.Tree.{Node, isText, isName}
 use Rattle.protocol.proofs.TestLaws.{and-left, and-right, and-both}
 use Rattle.tree.specs.Form.{nodeSize, nodeTexts, nodeRecord}
 use Rattle.tree.specs.Seen.{halfAt, firstText, textsFrom, nodeSeen}
 use Rattle.tree.specs.Check.{textsEnd, textsEndIn, nameRoom, nodeEnd}
+use Rattle.tree.proofs.FoundLaws.{if-some}
 use Rattle.tree.proofs.ScanLaws.{Lie, scan-back, text-seen, scan-forth}
 use Rattle.tree.proofs.TableLaws.{LaidOne, Written}
 use Rattle.tree.proofs.NumberLaws.{entries, take-entries, number-half, half-again}
-
--- An answer that is there only if a test passed.
-pub if-some : (t : Bool) {o : Option ℕ} {n : ℕ} → cond t o none ≡ some n → (t ≡ true) × (o ≡ some n)
-if-some true h = (refl, h)
-if-some false h = absurd (Option·none-ne-some _ h)
 
 -- One text, as all of some texts.
 pub texts-one : (s : List ℕ) → texts (s ∷ []) ≡ text s
@@ -33,6 +29,16 @@ texts-one s = append-nil (text s)
 pub length-text : (s : List ℕ) → length (text s) ≡ suc (length s)
 unfolding text
 length-text s = omega (arith, length-append s (0 ∷ []))
+
+-- What a name or label keeps.
+module _ (s : List ℕ) (h : isName s ≡ true) where
+  pub name-short : length s ≤ maxName
+  unfolding isName
+  name-short = leb-true (length s) maxName (and-left (leb (length s) maxName) (isText s) h)
+
+  pub name-text : isText s ≡ true
+  unfolding isName
+  name-text = and-right (leb (length s) maxName) (isText s) h
 
 -- A name or label that lies at a place.
 pub record Named (x s : List ℕ) (at end : ℕ) : Type 0 where
@@ -55,13 +61,11 @@ name-back bs at end h =
 
 pub name-forth : (bs s more : List ℕ) (at : ℕ) → isName s ≡ true → drop at bs ≡ text s ++ more
     → textsEndIn bs nameRoom 1 at ≡ some (at + length (text s))
-unfolding isName every
+unfolding every
 name-forth bs s more at h e =
-    let short : length s ≤ maxName = leb-true (length s) maxName (and-left (leb (length s) maxName) (isText s) h) in
-    let good : isText s ≡ true = and-right (leb (length s) maxName) (isText s) h in
     let one : length (texts (s ∷ [])) ≡ length (text s) = ap length (texts-one s) in
     ap (λ x. textsEnd (take nameRoom x) 1 at) (e ∙ ap (λ l. l ++ more) (sym (texts-one s)))
-    ∙ scan-forth [] s more nameRoom at (and-both good refl) (omega (arith, one, length-text s))
+    ∙ scan-forth [] s more nameRoom at (and-both (name-text s h) refl) (omega (arith, one, length-text s, name-short s h))
     ∙ ap (λ n. some (at + n)) one
 
 -- A node that ends well is laid out as in a form.
@@ -93,7 +97,7 @@ module _ (bs : List ℕ) where
   place-read n at rest h = number-half at h
 
   pub node-written : Written bs nodeSize (nodeSeen bs) nodeTexts nodeRecord (nodeEnd bs) nodeGood
-  unfolding nodeSeen nodeEnd nodeRecord half isName
+  unfolding nodeSeen nodeEnd nodeRecord half
   node-written =
       record {
         sized = λ at n. refl;
@@ -101,7 +105,7 @@ module _ (bs : List ℕ) where
             ap (λ s. record { parent = n .parent; name = s })
             (ap (λ p. firstText (drop p bs)) (place-read n at rest (omega arith))
             ∙ ap firstText e
-            ∙ text-seen (n .name) more (and-right (leb (length (n .name)) maxName) (isText (n .name)) h));
+            ∙ text-seen (n .name) more (name-text (n .name) h));
         ends = λ n at rest more h k e.
             ap (λ t. cond t (textsEndIn bs nameRoom 1 at) none) (eq-eqb (halfAt 1 (nodeRecord at n ++ rest)) at (place-read n at rest (omega arith)))
             ∙ name-forth bs (n .name) more at h e;

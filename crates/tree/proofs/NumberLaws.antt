@@ -1,15 +1,38 @@
 -- Numbers in bytes: written and read at a place.
 -- Assumes nothing.
-use Prim.Native.Nat.{ℕ, zero, suc, _+_, _*_, _/_, _%_, _^_, _<_, _≤_}
+use Prim.Native.Nat.{ℕ, zero, suc, _+_, _/_, _%_, _^_, _<_, _≤_}
 use native.Mathlib.Omega.{arith}
+use native.Mathlib.Nat.{add-assoc}
 use mathlib.Core.Path.{_≡_, refl, sym, ap, ap₂, _∙_}
 use mathlib.Core.List.{List, [], _∷_, _++_}
 use lib.ListN.{length, getD, take, drop}
-use lib.Seq.{drop-cons}
+use lib.Seq.{drop-cons, getD-drop}
 use Rattle.protocol.specs.Numbers.{byteEnd, halfEnd, wordEnd}
 use Rattle.protocol.specs.Bytes.{Bytes, half, word, number, numberAfter}
-use Rattle.protocol.proofs.ListLaws.{word-number}
+use Rattle.protocol.proofs.ListLaws.{word-number, bytes-cons}
 use Rattle.tree.specs.Seen.{halfAt, wordAt}
+
+-- Lists of bytes, and that numbers are written as bytes.
+pub bytes-none : Bytes []
+bytes-none i = omega arith
+
+pub bytes-append : (x y : List ℕ) → Bytes x → Bytes y → Bytes (x ++ y)
+bytes-append [] y p q = q
+bytes-append (b ∷ x) y p q = bytes-cons b (x ++ y) (p 0) (bytes-append x y (λ i. p (suc i)) q)
+
+pub half-bytes : (n : ℕ) → Bytes (half n)
+unfolding half
+half-bytes n zero = omega arith
+half-bytes n (suc zero) = omega arith
+half-bytes n (suc (suc i)) = omega arith
+
+pub word-bytes : (n : ℕ) → Bytes (word n)
+unfolding word
+word-bytes n zero = omega arith
+word-bytes n (suc zero) = omega arith
+word-bytes n (suc (suc zero)) = omega arith
+word-bytes n (suc (suc (suc zero))) = omega arith
+word-bytes n (suc (suc (suc (suc i)))) = omega arith
 
 -- The bytes from a place on, one by one.
 unfoldable pub entries : ℕ → ℕ → List ℕ → List ℕ
@@ -27,13 +50,13 @@ pub number-half : (n : ℕ) → n < halfEnd → number (half n) ≡ n
 unfolding numberAfter half
 number-half n h = omega arith
 
-half-bytes : (n : ℕ) {a b : ℕ} → n / 2 ^ 8 % 2 ^ 8 ≡ a → n % 2 ^ 8 ≡ b → half n ≡ a ∷ b ∷ []
+half-is : (n : ℕ) {a b : ℕ} → n / 2 ^ 8 % 2 ^ 8 ≡ a → n % 2 ^ 8 ≡ b → half n ≡ a ∷ b ∷ []
 unfolding half
-half-bytes n e f = cc
+half-is n e f = cc
 
 pub half-number : (a b : ℕ) → a < byteEnd → b < byteEnd → half (number (a ∷ b ∷ [])) ≡ a ∷ b ∷ []
 unfolding numberAfter
-half-number a b p q = half-bytes (number (a ∷ b ∷ [])) (omega arith) (omega arith)
+half-number a b p q = half-is (number (a ∷ b ∷ [])) (omega arith) (omega arith)
 
 -- Numbers read at a place, written again.
 pub half-again : (i : ℕ) (r : List ℕ) → Bytes r → half (halfAt i r) ≡ getD r i 0 ∷ getD r (i + 1) 0 ∷ []
@@ -54,3 +77,18 @@ half-fits i r all = omega (arith, all i, all (i + 1))
 pub word-fits : (i : ℕ) (r : List ℕ) → Bytes r → wordAt i r < wordEnd
 unfolding wordAt numberAfter
 word-fits i r all = omega (arith, all i, all (i + 1), all (i + 2), all (i + 3))
+
+-- Numbers behind a place.
+module _ (n : ℕ) (bs : List ℕ) (i : ℕ) where
+  byte-behind : (k : ℕ) → getD (drop n bs) (i + k) 0 ≡ getD bs (n + i + k) 0
+  byte-behind k = getD-drop n bs (i + k) 0 ∙ ap (λ m. getD bs m 0) (sym (add-assoc n i k))
+
+  pub half-behind : halfAt i (drop n bs) ≡ halfAt (n + i) bs
+  unfolding halfAt
+  half-behind = ap₂ (λ a b. number (a ∷ b ∷ [])) (getD-drop n bs i 0) (byte-behind 1)
+
+  pub word-behind : wordAt i (drop n bs) ≡ wordAt (n + i) bs
+  unfolding wordAt
+  word-behind =
+      ap₂ (λ a b. number (a ∷ b ∷ getD (drop n bs) (i + 2) 0 ∷ getD (drop n bs) (i + 3) 0 ∷ [])) (getD-drop n bs i 0) (byte-behind 1)
+      ∙ ap₂ (λ c d. number (getD bs (n + i) 0 ∷ getD bs (n + i + 1) 0 ∷ c ∷ d ∷ [])) (byte-behind 2) (byte-behind 3)

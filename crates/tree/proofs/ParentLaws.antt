@@ -2,20 +2,20 @@
 -- Assumes nothing.
 use Prim.Native.Nat.{ℕ, suc, _+_, _*_, _<_, _≤_}
 use native.Mathlib.Omega.{arith}
-use native.Mathlib.Nat.{not-suc-le-zero, add-zero}
+use native.Mathlib.Nat.{not-suc-le-zero}
 use native.Mathlib.Numerals.{add-one}
 use mathlib.Core.Path.{_≡_, refl, sym, ap, ap₂, _∙_}
 use mathlib.Core.Bool.{Bool, true, false, _&&_}
 use mathlib.Core.List.{List, [], _∷_, _++_}
 use borrow.Author.Tests.{lt-ltb, le-ltb, le-leb, lt-leb, eq-eqb, ne-eqb}
 use lib.ListN.{length, getD, take, drop, set, length-set, drop-of-length-le}
-use lib.Seq.{drop-cons, drop-drop, getD-drop, getD-take, length-take-le, take-suc-set}
+use lib.Seq.{drop-cons, getD-take, length-take-le, take-suc-set}
 use lib.Dec.{eqb, leb}
 use Rattle.protocol.specs.Numbers.{maxDepth, maxNodes}
 use Rattle.tree.specs.Form.{nodeSize}
 use Rattle.tree.specs.Seen.{nodeCount}
 use Rattle.tree.specs.Check.{lineage, lineageSound, parentsIn}
-use Rattle.tree.proofs.RecordLaws.{records-length, records-at}
+use Rattle.tree.proofs.RecordLaws.{records-length, first-at}
 
 -- A node's parent that stands behind it, one that stands too deep, and one that does neither.
 module _ (p : ℕ) (ps known : List ℕ) where
@@ -46,11 +46,7 @@ module _ (bs : List ℕ) where
   parents-length = records-length nodeSize (λ r. getD r 0 0) (nodeCount bs) (drop 2 bs)
 
   parent-at : (k : ℕ) → k < nodeCount bs → getD (parentsIn bs) k 0 ≡ getD bs (2 + k * nodeSize) 0
-  parent-at k h =
-      records-at nodeSize (λ r. getD r 0 0) (nodeCount bs) (drop 2 bs) k 0 h
-      ∙ ap (λ l. getD l 0 0) (drop-drop (k * nodeSize) 2 bs)
-      ∙ getD-drop (2 + k * nodeSize) bs 0 0
-      ∙ ap (λ n. getD bs n 0) (add-zero (2 + k * nodeSize))
+  parent-at k h = first-at nodeSize (nodeCount bs) 2 bs k h
 
   -- What the check says of nodes that are too many, that are none, or of which the device names another.
   pub too-many : maxNodes < nodeCount bs → false ≡ (leb (nodeCount bs) maxNodes && lineageSound (parentsIn bs))

@@ -7,12 +7,12 @@ use mathlib.Core.Path.{_≡_, refl, sym, ap, ap₂, subst, _∙_}
 use mathlib.Core.Bool.{Bool, true, false, cond, _&&_}
 use mathlib.Core.List.{List, [], _∷_, _++_, append-assoc}
 use mathlib.Core.Option.{Option, none, some}
-use borrow.Author.Tests.{eqb-true, eqb-false, leb-true, ltb-true, eq-eqb, ne-eqb, le-leb, lt-ltb}
+use borrow.Author.Tests.{eqb-true, leb-true, ltb-true, eq-eqb, le-leb, lt-ltb}
 use lib.ListN.{length, getD, take, drop, length-append}
 use lib.Seq.{length-take-le, drop-drop, take-add, drop-append-seam}
 use lib.Dec.{eqb, leb, ltb}
-use Rattle.protocol.specs.Numbers.{halfEnd, wordEnd, maxName, standard, enumeration, maxOption, maxTexts}
-use Rattle.protocol.specs.Bytes.{Bytes, every, half, word, number, numberAfter, text, texts, atMost}
+use Rattle.protocol.specs.Numbers.{halfEnd, wordEnd, standard, enumeration, maxOption, maxTexts}
+use Rattle.protocol.specs.Bytes.{Bytes, every, half, word, text, texts, atMost}
 use Rattle.protocol.specs.Request.{beforeZero}
 use Rattle.protocol.specs.Tree.{Property, isSigned, isText, isName, liveSound, standardSound, enumerationSound, kindSound, optionsSound, widthsSound, propertySound}
 use Rattle.protocol.specs.Answer.{recordTexts}
@@ -22,9 +22,10 @@ use Rattle.tree.specs.Form.{propertySize, propertyRecord}
 use Rattle.tree.specs.Seen.{halfAt, wordAt, firstText, afterText, textsFrom, optionCount, propertySeen, nodeCount}
 use Rattle.tree.specs.Check.{textsEnd, textsEndIn, nameRoom, andThen, kindFits, fieldsFit, propertyEnd}
 use Rattle.tree.proofs.ScanLaws.{Lie, scan-back, text-seen, text-passed, texts-seen, scan-forth}
-use Rattle.tree.proofs.TableLaws.{LaidOne, Written, then-some, then-back}
+use Rattle.tree.proofs.FoundLaws.{if-some, then-some, then-back}
+use Rattle.tree.proofs.TableLaws.{LaidOne, Written}
 use Rattle.tree.proofs.NumberLaws.{entries, take-entries, number-half, half-again, word-again, half-fits, word-fits}
-use Rattle.tree.proofs.NodeLaws.{if-some, length-text, Named, name-back, name-forth}
+use Rattle.tree.proofs.NodeLaws.{length-text, name-text, Named, name-back, name-forth}
 
 -- The first text ends with the first zero, or with the bytes.
 zero-within : (x : List ℕ) → beforeZero x ≤ length x
@@ -70,7 +71,7 @@ count-some kind max = go (eqb kind enumeration)
 
 -- The rules of the type: with the right number of texts they are those of a sound property.
 module _ (p : Property) where
-  fits-by : (t : Bool) → eqb (p .kind) standard ≡ t
+  pub fits-by : (t : Bool) → eqb (p .kind) standard ≡ t
       → kindFits p ≡ cond t (atMost (isSigned p) (p .min) (p .max)) (eqb (p .kind) enumeration && (eqb (p .min) 0 && leb (p .max) maxOption))
   unfolding kindFits
   fits-by t e = rw e
@@ -248,10 +249,6 @@ kept nodes p h =
       characters = and-left (every isText (p .options)) _ os;
       room = leb-true (length (texts (p .options))) maxTexts (and-right (every isText (p .options)) _ os);
     }
-
-name-text : (s : List ℕ) → isName s ≡ true → isText s ≡ true
-unfolding isName
-name-text s h = and-right (leb (length s) maxName) (isText s) h
 
 -- Some texts, at least one, scanned.
 scan-texts : (ss : List (List ℕ)) (more : List ℕ) (at : ℕ) → 1 ≤ length ss → every isText ss ≡ true → length (texts ss) ≤ maxTexts

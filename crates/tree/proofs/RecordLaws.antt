@@ -1,13 +1,13 @@
 -- Records of one size that lie one behind the other.
 -- Assumes nothing.
-use Prim.Native.Nat.{ℕ, zero, suc, _+_, _-_, _*_, _<_, _≤_}
+use Prim.Native.Nat.{ℕ, zero, suc, _+_, _-_, _*_, _<_}
 use native.Mathlib.Omega.{arith}
-use native.Mathlib.Nat.{not-suc-le-zero, zero-mul, suc-mul, add-comm, sub-zero, zero-sub, suc-sub-suc}
+use native.Mathlib.Nat.{not-suc-le-zero, zero-mul, suc-mul, add-comm, add-zero, sub-zero, zero-sub, suc-sub-suc}
 use mathlib.Core.Path.{_≡_, refl, sym, ap, ap₂, _∙_}
 use mathlib.Core.Bool.{Bool, cond}
 use mathlib.Core.List.{List, [], _∷_, _++_}
 use lib.ListN.{length, getD, drop}
-use lib.Seq.{drop-drop}
+use lib.Seq.{drop-drop, getD-drop}
 use Rattle.protocol.specs.Tree.{placesFrom}
 use Rattle.tree.specs.Seen.{recordsFrom}
 
@@ -35,6 +35,15 @@ module _ {A : Type 0} (size : ℕ) (read : List ℕ → A) where
   records-drop zero r (suc k) = ap (λ m. recordsFrom size read m (drop (suc k * size) r)) (sym (zero-sub (suc k)))
   records-drop (suc n) r (suc k) = records-drop n (drop size r) k
       ∙ ap₂ (λ m s. recordsFrom size read m s) (sym (suc-sub-suc n k)) (further k r)
+
+-- The first byte of the record at a place.
+pub first-at : (size n start : ℕ) (bs : List ℕ) (k : ℕ) → k < n
+    → getD (recordsFrom size (λ r. getD r 0 0) n (drop start bs)) k 0 ≡ getD bs (start + k * size) 0
+first-at size n start bs k h =
+    records-at size (λ r. getD r 0 0) n (drop start bs) k 0 h
+    ∙ ap (λ l. getD l 0 0) (drop-drop (k * size) start bs)
+    ∙ getD-drop (start + k * size) bs 0 0
+    ∙ ap (λ i. getD bs i 0) (add-zero (start + k * size))
 
 -- A test that looks only at part of what is read.
 module _ {A B : Type 0} (size : ℕ) (read : List ℕ → A) (part : List ℕ → B) where

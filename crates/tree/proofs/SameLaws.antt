@@ -1,7 +1,7 @@
--- Two lists that are the same are equal, and equal ones are the same.
+-- Lists that are the same are equal, and equal ones are the same; numbers that differ.
 -- Assumes nothing.
 use Prim.Native.Nat.{ℕ}
-use mathlib.Core.Path.{_≡_, refl, ap₂}
+use mathlib.Core.Path.{_≡_, refl, sym, ap₂, _∙_}
 use mathlib.Core.Bool.{true, false≢true}
 use mathlib.Core.List.{List, [], _∷_}
 use borrow.Author.Tests.{eqb-true, eq-eqb}
@@ -21,3 +21,7 @@ pub same-refl : (xs : List ℕ) → same xs xs ≡ true
 unfolding same
 same-refl [] = refl
 same-refl (x ∷ xs) = and-both (eq-eqb x x refl) (same-refl xs)
+
+-- Two numbers differ if those that were read for them do.
+pub differ : {m m′ n n′ : ℕ} → m ≡ m′ → n ≡ n′ → (m ≡ n → ⊥) → m′ ≡ n′ → ⊥
+differ e f h q = h (e ∙ q ∙ sym f)

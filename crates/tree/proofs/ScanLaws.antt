@@ -1,21 +1,19 @@
 -- Texts in bytes: what is seen of them, where they end, and that written texts are seen again.
 -- Assumes nothing.
-use Prim.Native.Nat.{ℕ, zero, suc, _+_, _-_, _<_, _≤_}
+use Prim.Native.Nat.{ℕ, zero, suc, _+_, _≤_}
 use native.Mathlib.Omega.{arith}
 use native.Mathlib.Nat.{not-suc-le-zero}
 use mathlib.Core.Path.{_≡_, refl, sym, ap, ap₂, subst, _∙_}
-use mathlib.Core.Bool.{Bool, true, false, cond, _&&_, false≢true}
+use mathlib.Core.Bool.{Bool, true, false, cond, false≢true}
 use mathlib.Core.List.{List, [], _∷_, _++_, append-assoc}
-use mathlib.Core.Option.{Option, none, some, Option·none-ne-some, Option·some-injective}
-use borrow.Author.Tests.{eqb-true, eqb-false, leb-true, leb-false, eq-eqb, ne-eqb, le-leb, lt-leb}
+use mathlib.Core.Option.{none, some, Option·none-ne-some, Option·some-injective}
+use borrow.Author.Tests.{le-leb, lt-leb}
 use lib.ListN.{length, take, drop, length-append}
 use lib.Dec.{eqb, eqb·suc-zero}
-use Rattle.protocol.specs.Numbers.{firstCharacter, lastCharacter}
 use Rattle.protocol.specs.Bytes.{every, text, texts}
 use Rattle.protocol.specs.Request.{beforeZero}
 use Rattle.protocol.specs.Tree.{isCharacter, isText}
 use Rattle.protocol.proofs.TestLaws.{and-left, and-right, and-both}
-use Rattle.tree.specs.declared.texts.Step.{Step}
 use Rattle.tree.specs.declared.texts.Step.the-variants.{On, Ended, Bad}
 use Rattle.tree.specs.Seen.{firstText, afterText, textsFrom}
 use Rattle.tree.specs.Check.{stepOf, textsEnd}
@@ -81,15 +79,15 @@ lie-more {xs} {s} {ss} b f l =
     }
 
 -- The end of texts by the step of their first byte.
-end-on : (left b : ℕ) {more : ℕ} (bs : List ℕ) (at : ℕ) → stepOf left b ≡ On more → textsEnd (b ∷ bs) left at ≡ textsEnd bs more (suc at)
+pub end-on : (left b : ℕ) {more : ℕ} (bs : List ℕ) (at : ℕ) → stepOf left b ≡ On more → textsEnd (b ∷ bs) left at ≡ textsEnd bs more (suc at)
 unfolding textsEnd
 end-on left b bs at e = rw (e, textsEnd)
 
-end-ended : (left b : ℕ) (bs : List ℕ) (at : ℕ) → stepOf left b ≡ Ended → textsEnd (b ∷ bs) left at ≡ some (suc at)
+pub end-ended : (left b : ℕ) (bs : List ℕ) (at : ℕ) → stepOf left b ≡ Ended → textsEnd (b ∷ bs) left at ≡ some (suc at)
 unfolding textsEnd
 end-ended left b bs at e = rw (e, textsEnd)
 
-end-bad : (left b : ℕ) (bs : List ℕ) (at : ℕ) → stepOf left b ≡ Bad → textsEnd (b ∷ bs) left at ≡ none
+pub end-bad : (left b : ℕ) (bs : List ℕ) (at : ℕ) → stepOf left b ≡ Bad → textsEnd (b ∷ bs) left at ≡ none
 unfolding textsEnd
 end-bad left b bs at e = rw (e, textsEnd)
 

@@ -6,15 +6,15 @@ use native.Mathlib.Nat.{zero-mul, suc-mul, sub-zero, add-zero, add-assoc}
 use native.Mathlib.Numerals.{add-one}
 use mathlib.Core.Path.{_≡_, refl, sym, ap, ap₂, subst, _∙_}
 use mathlib.Core.Bool.{Bool, true, false, cond, not, _&&_, and-false}
-use mathlib.Core.List.{List, [], _∷_}
-use mathlib.Core.Option.{Option, none, some}
-use borrow.Author.Tests.{leb-true, eqb-true, eqb-false, eq-eqb, ne-eqb}
+use mathlib.Core.List.{List}
+use mathlib.Core.Option.{Option, none, some, Option·some-injective}
+use borrow.Author.Tests.{leb-true, le-leb, eq-eqb, ne-eqb}
 use lib.ListN.{length, getD, drop}
-use lib.Seq.{drop-drop, getD-drop}
+use lib.Seq.{drop-drop}
 use lib.Dec.{eqb, leb}
-use Rattle.protocol.specs.Numbers.{done, unsound, maxNodes, maxProperties, maxTexts}
-use Rattle.protocol.specs.Bytes.{number}
-use Rattle.protocol.specs.Tree.{Property, canRead, canWrite, isLive, liveSound, propertyIn}
+use Rattle.protocol.specs.Numbers.{done, unsound, standard, enumeration, maxNodes, maxProperties, maxOption, maxTexts}
+use Rattle.protocol.specs.Bytes.{atMost}
+use Rattle.protocol.specs.Tree.{Property, isSigned, canRead, canWrite, isLive, liveSound, propertyIn}
 use Rattle.protocol.proofs.TestLaws.{and-left, and-right}
 use Rattle.tree.specs.declared.Found.{Found}
 use Rattle.tree.specs.declared.Found.the-variants.{At, Nothing}
@@ -24,25 +24,10 @@ use Rattle.tree.specs.Seen.{halfAt, wordAt, seen, isTree, nodeCount, pro
 use Rattle.tree.specs.Cells.{cellsIn, hasCells}
 use Rattle.tree.specs.Check.{textsEndIn, andThen, nameRoom, nodeEnd, kindFits, fieldsFit, propertyEnd, recordsEnd, lineageSound, parentsIn, countsFit, textsFit, endsAt, checked}
 use Rattle.tree.specs.Lent.{foundOf, FieldsAre, numbersOf, isLent, lentNumber}
-use Rattle.tree.proofs.RecordLaws.{records-length, records-at}
-use Rattle.tree.proofs.TextLaws.{none-some, some-same, texts-within}
-
--- A place that was found, or none.
-pub found-at : (o : Option ℕ) {place : ℕ} → At place ≡ foundOf o → o ≡ some place
-found-at none h = absurd (let z : _≡_ {A = ℕ} 0 1 = cc in omega arith)
-found-at (some n) h = cc
-
-pub found-none : (o : Option ℕ) → Nothing ≡ foundOf o → o ≡ none
-found-none none h = refl
-found-none (some n) h = absurd (let z : _≡_ {A = ℕ} 0 1 = cc in omega arith)
-
--- A number of 16 bits in the bytes behind a place.
-half-behind : (n i : ℕ) (bs : List ℕ) {m : ℕ} → n + i ≡ m → halfAt i (drop n bs) ≡ halfAt m bs
-unfolding halfAt
-half-behind n i bs {m} e =
-    ap₂ (λ a b. number (a ∷ b ∷ []))
-    (getD-drop n bs i 0 ∙ ap (λ k. getD bs k 0) e)
-    (getD-drop n bs (i + 1) 0 ∙ ap (λ k. getD bs k 0) (sym (add-assoc n i 1) ∙ ap (λ k. k + 1) e))
+use Rattle.tree.proofs.FoundLaws.{found-at, found-none, if-some, then-back}
+use Rattle.tree.proofs.NumberLaws.{half-behind}
+use Rattle.tree.proofs.FieldLaws.{property-at, property-count, name-place}
+use Rattle.tree.proofs.TextLaws.{texts-within}
 
 -- A node's record: its name lies elsewhere, or here.
 module _ (bs r : List ℕ) (at : ℕ) where
@@ -55,24 +40,18 @@ module _ (bs r : List ℕ) (at : ℕ) where
   node-here h = rw (eq-eqb (halfAt 1 r) at h)
 
   pub node-within : {next : ℕ} → at ≤ length bs → nodeEnd bs r at ≡ some next → next ≤ length bs
-  node-within {next} h e = go (eqb (halfAt 1 r) at) refl
-    where
-      go : (t : Bool) → eqb (halfAt 1 r) at ≡ t → next ≤ length bs
-      go true q = texts-within bs nameRoom 1 at h (sym (node-here (eqb-true (halfAt 1 r) at q)) ∙ e)
-      go false q = none-some (sym (node-other (eqb-false (halfAt 1 r) at q)) ∙ e)
+  unfolding nodeEnd
+  node-within h e = texts-within bs nameRoom 1 at h (if-some (eqb (halfAt 1 r) at) e .1)
 
 module _ (bs : List ℕ) (k at : ℕ) where
-  place : 2 + k * nodeSize + 1 ≡ 3 + k * nodeSize
-  place = omega arith
-
   pub node-elsewhere : (halfAt (3 + k * nodeSize) bs ≡ at → ⊥) → Nothing ≡ foundOf (nodeEnd bs (drop (2 + k * nodeSize) bs) at)
   node-elsewhere h =
-      sym (ap foundOf (node-other bs (drop (2 + k * nodeSize) bs) at (λ e. h (sym (half-behind (2 + k * nodeSize) 1 bs place) ∙ e))))
+      sym (ap foundOf (node-other bs (drop (2 + k * nodeSize) bs) at (λ e. h (sym (name-place bs k) ∙ e))))
 
   pub node-ends : {x : Found} → halfAt (3 + k * nodeSize) bs ≡ at → x ≡ foundOf (textsEndIn bs nameRoom 1 at)
       → x ≡ foundOf (nodeEnd bs (drop (2 + k * nodeSize) bs) at)
   node-ends h e =
-      e ∙ sym (ap foundOf (node-here bs (drop (2 + k * nodeSize) bs) at (half-behind (2 + k * nodeSize) 1 bs place ∙ h)))
+      e ∙ sym (ap foundOf (node-here bs (drop (2 + k * nodeSize) bs) at (name-place bs k ∙ h)))
 
 -- Records from a place on, of which some are done.
 pub record Going (size : ℕ) (f : List ℕ → ℕ → Option ℕ) (bs : List ℕ) (from start total n at k : ℕ) : Type 0 where
@@ -140,40 +119,23 @@ module _ {size : ℕ} {f : List ℕ → ℕ → Option ℕ} {bs : List ℕ} {fro
 records-within : (size : ℕ) (f : List ℕ → ℕ → Option ℕ) (most : ℕ)
     → ((r : List ℕ) (at next : ℕ) → at ≤ most → f r at ≡ some next → next ≤ most)
     → (n : ℕ) (r : List ℕ) (at : ℕ) {next : ℕ} → at ≤ most → recordsEnd size f n r at ≡ some next → next ≤ most
-unfolding recordsEnd andThen
-records-within size f most g zero r at h e = omega (arith, some-same e)
-records-within size f most g (suc n) r at {next} h e =
-    go (f r at) refl (λ mid q. records-within size f most g n (drop size r) mid q)
-  where
-    go : (o : Option ℕ) → f r at ≡ o
-        → ((mid : ℕ) → mid ≤ most → recordsEnd size f n (drop size r) mid ≡ some next → next ≤ most)
-        → next ≤ most
-    go none q rest = none-some (sym (ap (λ o. andThen o (recordsEnd size f n (drop size r))) q) ∙ e)
-    go (some mid) q rest = rest mid (g r at mid h q) (sym (ap (λ o. andThen o (recordsEnd size f n (drop size r))) q) ∙ e)
+unfolding recordsEnd
+records-within size f most g zero r at h e = omega (arith, Option·some-injective _ _ e)
+records-within size f most g (suc n) r at h e =
+    let steps = then-back (f r at) (λ next. recordsEnd size f n (drop size r) next) e in
+    records-within size f most g n (drop size r) (steps .0) (g r at (steps .0) h (steps .1 .0)) (steps .1 .1)
 
--- The property at a place, and its numbers.
-pub property-at : (bs : List ℕ) (k : ℕ) → k < propertyCount bs
-    → propertyIn (seen bs) k ≡ propertySeen bs (drop (propertiesStart (nodeCount bs) + k * propertySize) bs)
-unfolding seen
-property-at bs k h =
-    records-at propertySize (propertySeen bs) (propertyCount bs) (drop (propertiesStart (nodeCount bs)) bs) k
-    (record {
-      node = 0;
-      kind = 0;
-      min = 0;
-      max = 0;
-      attribute = 0;
-      format = 0;
-      label = [];
-      options = [];
-    }) h
-    ∙ ap (propertySeen bs) (drop-drop (k * propertySize) (propertiesStart (nodeCount bs)) bs)
-
+-- The rules of a property's numbers.
 pub live-by : (p : Property) {live reads writes : Bool} → isLive p ≡ live → canRead p ≡ reads → canWrite p ≡ writes
     → cond live (reads && not writes) true ≡ liveSound p
 unfolding liveSound
 live-by p {live} {reads} e f g =
     sym (ap₂ (λ l r. cond l (r && not (canWrite p)) true) e f ∙ ap (λ w. cond live (reads && not w) true) g)
+
+pub kind-by : (p : Property) {one two low : Bool} → eqb (p .kind) standard ≡ one → eqb (p .kind) enumeration ≡ two → eqb (p .min) 0 ≡ low
+    → cond one (atMost (isSigned p) (p .min) (p .max)) (two && (low && leb (p .max) maxOption)) ≡ kindFits p
+unfolding kindFits
+kind-by p e f g = rw (e, f, g)
 
 pub fields-same : (nodes : ℕ) {p : Property} {f : Fields} → FieldsAre p f → fieldsFit nodes (numbersOf f) ≡ fieldsFit nodes p
 unfolding fieldsFit liveSound kindFits
@@ -201,19 +163,13 @@ module _ (bs r : List ℕ) (at : ℕ) where
   texts-follow : fieldsFit (nodeCount bs) (propertySeen bs r) ≡ true → halfAt 14 r ≡ at → propertyEnd bs r at ≡ bothTexts
   texts-follow e h = property-by e (eq-eqb (halfAt 14 r) at h)
 
-  both-within : (o : Option ℕ) {next : ℕ} → at ≤ length bs → textsEndIn bs nameRoom 1 at ≡ o
-      → andThen o (λ mid. textsEndIn bs maxTexts (optionCount (getD r 1 0) (wordAt 6 r)) mid) ≡ some next → next ≤ length bs
-  unfolding andThen
-  both-within none h e f = none-some f
-  both-within (some mid) h e f =
-      texts-within bs maxTexts (optionCount (getD r 1 0) (wordAt 6 r)) mid (texts-within bs nameRoom 1 at h e) f
-
   pub property-within : {next : ℕ} → at ≤ length bs → propertyEnd bs r at ≡ some next → next ≤ length bs
-  property-within {next} h e = go (fieldsFit (nodeCount bs) (propertySeen bs r) && eqb (halfAt 14 r) at) (sym (property-by refl refl) ∙ e)
-    where
-      go : (t : Bool) → cond t bothTexts none ≡ some next → next ≤ length bs
-      go true f = both-within (textsEndIn bs nameRoom 1 at) h refl f
-      go false f = none-some f
+  unfolding propertyEnd
+  property-within h e =
+      let both = if-some (fieldsFit (nodeCount bs) (propertySeen bs r) && eqb (halfAt 14 r) at) e in
+      let count : ℕ = optionCount (getD r 1 0) (wordAt 6 r) in
+      let steps = then-back (textsEndIn bs nameRoom 1 at) (λ mid. textsEndIn bs maxTexts count mid) (both .1) in
+      texts-within bs maxTexts count (steps .0) (texts-within bs nameRoom 1 at h (steps .1 .0)) (steps .1 .1)
 
 -- The same of the record at a place, by the numbers that were read there.
 module _ (bs : List ℕ) (k at : ℕ) {f : Fields} {nodes : ℕ} (n : nodes ≡ nodeCount bs) (h : k < propertyCount bs) (w : FieldsAre (propertyIn (seen bs) k) f) where
@@ -235,13 +191,13 @@ module _ (bs : List ℕ) (k at : ℕ) {f : Fields} {nodes : ℕ} (n : nodes ≡ 
 
   pub property-elsewhere : (halfAt (begin + 14) bs ≡ at → ⊥) → Nothing ≡ foundOf (propertyEnd bs (drop begin bs) at)
   property-elsewhere u =
-      sym (ap foundOf (elsewhere bs (drop begin bs) at (λ e. u (sym (half-behind begin 14 bs refl) ∙ e))))
+      sym (ap foundOf (elsewhere bs (drop begin bs) at (λ e. u (sym (half-behind begin bs 14) ∙ e))))
 
   module _ (good : fieldsFit nodes (numbersOf f) ≡ true) (here : halfAt (begin + 14) bs ≡ at) where
     is : {o : Option ℕ} → textsEndIn bs nameRoom 1 at ≡ o
         → propertyEnd bs (drop begin bs) at ≡ andThen o (λ mid. textsEndIn bs maxTexts (optionCount (f .kind) (f .max)) mid)
     is e =
-        texts-follow bs (drop begin bs) at (sym fit ∙ good) (half-behind begin 14 bs refl ∙ here)
+        texts-follow bs (drop begin bs) at (sym fit ∙ good) (half-behind begin bs 14 ∙ here)
         ∙ ap₂ (λ o m. andThen o (λ mid. textsEndIn bs maxTexts m mid)) e (sym options)
 
     pub property-unnamed : Nothing ≡ foundOf (textsEndIn bs nameRoom 1 at) → Nothing ≡ foundOf (propertyEnd bs (drop begin bs) at)
@@ -252,6 +208,26 @@ module _ (bs : List ℕ) (k at : ℕ) {f : Fields} {nodes : ℕ} (n : nodes ≡ 
         → x ≡ foundOf (textsEndIn bs maxTexts (optionCount (f .kind) (f .max)) mid) → x ≡ foundOf (propertyEnd bs (drop begin bs) at)
     unfolding andThen
     property-ends e q = q ∙ sym (ap foundOf (is (found-at (textsEndIn bs nameRoom 1 at) e)))
+
+-- What the counts tell.
+pub record Counted (bs : List ℕ) : Type 0 where
+  pub two : 2 ≤ length bs
+  pub nodes : nodeCount bs ≤ maxNodes
+  pub properties : propertyCount bs ≤ maxProperties
+  pub records : textsStart (nodeCount bs) (propertyCount bs) ≤ length bs
+
+pub counts : (bs : List ℕ) → countsFit bs ≡ true → Counted bs
+unfolding countsFit
+counts bs h =
+    let a = and-right (leb 2 (length bs)) _ h in
+    let b = and-right (leb (nodeCount bs) maxNodes) _ a in
+    record {
+      two = leb-true 2 (length bs) (and-left (leb 2 (length bs)) _ h);
+      nodes = leb-true (nodeCount bs) maxNodes (and-left (leb (nodeCount bs) maxNodes) _ a);
+      properties = leb-true (propertyCount bs) maxProperties (and-left (leb (propertyCount bs) maxProperties) _ b);
+      records =
+          leb-true (textsStart (nodeCount bs) (propertyCount bs)) (length bs) (and-right (leb (propertyCount bs) maxProperties) _ b);
+    }
 
 -- The whole check, test by test.
 module _ (bs : List ℕ) where
@@ -265,37 +241,19 @@ module _ (bs : List ℕ) where
   unfolding checked
   uncounted e = rw e
 
-  module _ (counts : countsFit bs ≡ true) where
-    two : leb 2 (length bs) ≡ true
-    unfolding countsFit
-    two = and-left (leb 2 (length bs)) _ counts
-
-    later : (leb (nodeCount bs) maxNodes && (leb (propertyCount bs) maxProperties && leb (textsStart (nodeCount bs) (propertyCount bs)) (length bs))) ≡ true
-    unfolding countsFit
-    later = and-right (leb 2 (length bs)) _ counts
-
-    few : leb (nodeCount bs) maxNodes ≡ true
-    few = and-left (leb (nodeCount bs) maxNodes) _ later
-
-    pub counted-size : 2 ≤ length bs
-    counted-size = leb-true 2 (length bs) two
-
-    pub counted-start : textsStart (nodeCount bs) (propertyCount bs) ≤ length bs
-    counted-start =
-        leb-true (textsStart (nodeCount bs) (propertyCount bs)) (length bs)
-        (and-right (leb (propertyCount bs) maxProperties) _ (and-right (leb (nodeCount bs) maxNodes) _ later))
-
+  module _ (fit : countsFit bs ≡ true) where
     pub names-within : {mid : ℕ} → At mid ≡ foundOf names → mid ≤ length bs
     names-within e =
         records-within nodeSize (nodeEnd bs) (length bs) (λ r at next h q. node-within bs r at h q) (nodeCount bs) (drop 2 bs)
-        (textsStart (nodeCount bs) (propertyCount bs)) counted-start (found-at names e)
+        (textsStart (nodeCount bs) (propertyCount bs)) (counts bs fit .records) (found-at names e)
 
     counted-by : {t : Bool} → lineageSound (parentsIn bs) ≡ t → checked bs ≡ (t && endsAt (textsFit bs) (length bs))
     unfolding checked
-    counted-by e = rw (counts, e)
+    counted-by e = rw (fit, e)
 
     lineage-is : {t : Bool} → (leb (nodeCount bs) maxNodes && lineageSound (parentsIn bs)) ≡ t → lineageSound (parentsIn bs) ≡ t
-    lineage-is e = sym (ap (λ u. u && lineageSound (parentsIn bs)) few) ∙ e
+    lineage-is e =
+        sym (ap (λ u. u && lineageSound (parentsIn bs)) (le-leb (nodeCount bs) maxNodes (counts bs fit .nodes))) ∙ e
 
     pub parentless : (leb (nodeCount bs) maxNodes && lineageSound (parentsIn bs)) ≡ false → checked bs ≡ false
     parentless e = counted-by (lineage-is e)
@@ -321,9 +279,7 @@ module _ (bs : List ℕ) where
 -- The number of tree and cells, by the three tests.
 pub lent-by : (tree cells : List ℕ) {t u v : Bool} → isTree tree ≡ t → hasCells cells ≡ u
     → eqb (length (cellsIn cells)) (propertyCount tree) ≡ v → cond (t && (u && v)) done unsound ≡ lentNumber tree cells
-unfolding lentNumber isLent seen
+unfolding lentNumber isLent
 lent-by tree cells {t} {u} e f g =
-    let properties : length (seen tree .properties) ≡ propertyCount tree =
-    records-length propertySize (propertySeen tree) (propertyCount tree) (drop (propertiesStart (nodeCount tree)) tree) in
     sym (ap₂ (λ a b. cond (a && (b && eqb (length (cellsIn cells)) (length (seen tree .properties)))) done unsound) e f
-    ∙ ap (λ v. cond (t && (u && v)) done unsound) (ap (eqb (length (cellsIn cells))) properties ∙ g))
+    ∙ ap (λ v. cond (t && (u && v)) done unsound) (ap (eqb (length (cellsIn cells))) (property-count tree) ∙ g))

@@ -2,11 +2,11 @@
 -- Assumes nothing.
 use Prim.Native.Nat.{ℕ, zero, suc, _+_, _*_, _<_, _≤_}
 use native.Mathlib.Omega.{arith}
-use native.Mathlib.Nat.{zero-mul, suc-mul, add-comm, add-zero, add-assoc}
+use native.Mathlib.Nat.{zero-mul, suc-mul, add-comm}
 use mathlib.Core.Path.{_≡_, refl, sym, ap, ap₂, subst, _∙_}
-use mathlib.Core.Bool.{Bool, true, false, _&&_}
+use mathlib.Core.Bool.{Bool, true}
 use mathlib.Core.List.{List, [], _∷_, _++_, append-assoc}
-use mathlib.Core.Option.{Option, none, some, Option·none-ne-some, Option·some-injective}
+use mathlib.Core.Option.{Option, some, Option·some-injective}
 use lib.ListN.{length, take, drop, length-append, length-drop}
 use lib.Seq.{take-add, drop-drop, drop-at, drop-append-seam}
 use Rattle.protocol.specs.Numbers.{halfEnd}
@@ -15,17 +15,8 @@ use Rattle.protocol.proofs.TestLaws.{and-left, and-right, and-both}
 use Rattle.protocol.proofs.ListLaws.{bytes-drop}
 use Rattle.tree.specs.Form.{allTexts, allRecords}
 use Rattle.tree.specs.Seen.{recordsFrom}
-use Rattle.tree.specs.Check.{andThen, recordsEnd}
-
--- Two steps, the second from where the first ended.
-pub then-some : {o : Option ℕ} (f : ℕ → Option ℕ) {n : ℕ} → o ≡ some n → andThen o f ≡ f n
-unfolding andThen
-then-some f e = rw e
-
-pub then-back : (o : Option ℕ) (f : ℕ → Option ℕ) {end : ℕ} → andThen o f ≡ some end → (n : ℕ) × ((o ≡ some n) × (f n ≡ some end))
-unfolding andThen
-then-back none f h = absurd (Option·none-ne-some _ h)
-then-back (some n) f h = (n, (refl, h))
+use Rattle.tree.specs.Check.{recordsEnd}
+use Rattle.tree.proofs.FoundLaws.{then-some, then-back}
 
 module _ {A : Type 0} (bs : List ℕ) (size : ℕ) (read : List ℕ → A) (textsIn : A → List ℕ) (recordFor : ℕ → A → List ℕ)
     (recordEnd : List ℕ → ℕ → Option ℕ) (ok : A → Bool)

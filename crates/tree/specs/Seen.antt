@@ -1,6 +1,6 @@
 -- docs/FORMATS.md, Tree: what is seen in lent bytes, whatever they are. A byte past the end is 0, and a text that no zero ends
 -- goes to the end.
-use Prim.Native.Nat.{ℕ, zero, suc, _+_, _*_, _%_}
+use Prim.Native.Nat.{ℕ, zero, suc, _+_, _%_}
 use mathlib.Core.Bool.{Bool, true, false, cond, _&&_}
 use mathlib.Core.List.{List, [], _∷_}
 use mathlib.Core.Option.{Option, none, some}

@@ -7,10 +7,7 @@ use super::record;
 use protocol::DONE;
 use protocol::UNSOUND;
 ghost use mathlib.Core.Path.{_≡_};
-ghost use Prim.Native.Nat.{_+_, _≤_};
 ghost use lib.ListN.{length};
-ghost use Rattle.protocol.specs.Bytes.{word};
-ghost use Rattle.protocol.specs.Buffer.{putAt};
 ghost use Rattle.protocol.specs.Tree.{cellIn};
 ghost use Rattle.tree.specs.Cells.{hasCells, cellsIn, withWord, withMark};
 ghost use Rattle.tree.specs.Lent.{Posts, postIn};
@@ -75,14 +72,14 @@ pub fn store_word(cells: &mut [u8], place: usize, n: u32)
 }
 
 // The mark of the cell at a place set.
-fn store_mark(cells: &mut [u8], place: usize, ready: bool)
-    ensures { λ _. ⌜ now (cells .exit) ≡ withMark place ready (now (cells .entry)) ⌝ }
+fn store_mark(cells: &mut [u8], place: usize, mark: bool)
+    ensures { λ _. ⌜ now (cells .exit) ≡ withMark place mark (now (cells .entry)) ⌝ }
 {
     if cells.len() / CELL_SIZE <= place {
         return;
     }
     let at = place * CELL_SIZE + 4;
-    if ready {
+    if mark {
         cells[at] = 1;
     } else {
         cells[at] = 0;

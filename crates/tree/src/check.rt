@@ -21,7 +21,7 @@ ghost use mathlib.Core.Path.{_≡_};
 ghost use Prim.Native.Nat.{_+_, _*_, _≤_, _<_};
 ghost use lib.ListN.{length, getD, drop};
 ghost use Rattle.protocol.specs.Tree.{liveSound};
-ghost use Rattle.tree.specs.Form.{nodeSize, propertySize, propertiesStart, textsStart};
+ghost use Rattle.tree.specs.Form.{nodeSize, propertySize, propertiesStart};
 ghost use Rattle.tree.specs.Seen.{isTree, nodeCount, propertyCount};
 ghost use Rattle.tree.specs.Check.{nodeEnd, propertyEnd, recordsEnd, kindFits, fieldsFit, countsFit};
 ghost use Rattle.tree.specs.Lent.{foundOf, lentNumber, numbersOf};

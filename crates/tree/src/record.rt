@@ -5,11 +5,10 @@ use super::PROPERTY_SIZE;
 use super::bytes;
 use super::texts;
 ghost use mathlib.Core.Path.{_≡_};
-ghost use Prim.Native.Nat.{_-_};
-ghost use lib.ListN.{length, getD, take};
+ghost use lib.ListN.{getD};
 ghost use Rattle.protocol.specs.Numbers.{bitRead, bitWrite, bitLive, bitSigned};
 ghost use Rattle.protocol.specs.Bytes.{bit, text, ordered, atMost};
-ghost use Rattle.protocol.specs.Buffer.{Put};
+ghost use Rattle.protocol.specs.Buffer.{Put, fitting};
 ghost use Rattle.protocol.specs.Tree.{nodeIn, propertyIn};
 ghost use Rattle.protocol.specs.Answer.{recordTexts};
 ghost use Rattle.tree.specs.Form.{propertiesStart};
@@ -116,7 +115,7 @@ pub fn read_fields(tree: &[u8], place: usize) -> Fields
 
 // A node's name, with the zero that ends it, put at a place of an output, as far as there is room. Returns the next place.
 pub fn put_name(tree: &[u8], node: usize, out: &mut [u8], at: usize) -> usize
-    ensures { λ r. ⌜ Put at (take (length (now (out .entry)) - at) (text (nodeIn (seen (now (tree .entry))) node .name))) (now (out .entry)) r (now (out .exit)) ⌝ }
+    ensures { λ r. ⌜ Put at (fitting at (text (nodeIn (seen (now (tree .entry))) node .name)) (now (out .entry))) (now (out .entry)) r (now (out .exit)) ⌝ }
 {
     if bytes::wide(bytes::byte_at(tree, 0)) <= node {
         return texts::put_texts(tree, tree.len(), 1, out, at);
@@ -127,7 +126,7 @@ pub fn put_name(tree: &[u8], node: usize, out: &mut [u8], at: usize) -> usize
 
 // A property's label and its unit or options, each with its zero, likewise.
 pub fn put_record_texts(tree: &[u8], place: usize, out: &mut [u8], at: usize) -> usize
-    ensures { λ r. ⌜ Put at (take (length (now (out .entry)) - at) (recordTexts (propertyIn (seen (now (tree .entry))) place))) (now (out .entry)) r (now (out .exit)) ⌝ }
+    ensures { λ r. ⌜ Put at (fitting at (recordTexts (propertyIn (seen (now (tree .entry))) place)) (now (out .entry))) (now (out .entry)) r (now (out .exit)) ⌝ }
 {
     if bytes::wide(bytes::byte_at(tree, 1)) <= place {
         return texts::put_texts(tree, tree.len(), 1, out, at);

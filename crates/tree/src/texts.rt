@@ -3,9 +3,9 @@ use super::Found;
 use super::bytes;
 ghost use mathlib.Core.Path.{_≡_};
 ghost use Prim.Native.Nat.{_+_, _-_, _≤_, min};
-ghost use lib.ListN.{length, take, drop};
+ghost use lib.ListN.{length, drop};
 ghost use Rattle.protocol.specs.Bytes.{texts};
-ghost use Rattle.protocol.specs.Buffer.{Put};
+ghost use Rattle.protocol.specs.Buffer.{Put, fitting};
 ghost use Rattle.tree.specs.Seen.{textsFrom};
 ghost use Rattle.tree.specs.Check.{stepOf, textsEndIn};
 ghost use Rattle.tree.specs.Lent.{foundOf};
@@ -71,7 +71,7 @@ pub(crate) fn texts_end(tree: &[u8], from: usize, count: usize, room: usize) -> 
 
 // Some texts that begin at a place, each with its zero, put at a place of an output, as far as there is room.
 pub(crate) fn put_texts(tree: &[u8], from: usize, count: usize, out: &mut [u8], at: usize) -> usize
-    ensures { λ r. ⌜ Put at (take (length (now (out .entry)) - at) (texts (textsFrom count (drop from (now (tree .entry)))))) (now (out .entry)) r (now (out .exit)) ⌝ }
+    ensures { λ r. ⌜ Put at (fitting at (texts (textsFrom count (drop from (now (tree .entry))))) (now (out .entry))) (now (out .entry)) r (now (out .exit)) ⌝ }
 {
     let mut left = count;
     let mut next = at;

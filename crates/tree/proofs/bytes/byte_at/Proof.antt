@@ -1,20 +1,16 @@
+-- `tree::bytes::byte_at` meets its contract. Assumes nothing.
 use mathlib.Core.Path.{sym}
 use lib.ListN.{List·getD-eq-default}
 use borrow.Author.Needs.{needs}
 use Rattle.tree.proofs.bytes.byte_at.Statement.{statement}
 use Rattle.tree.proofs.bytes.byte_at.Tie as tie
-use Rattle.tree.proofs.bytes.byte_at.Reads as reads
-use Rattle.tree.proofs.bytes.byte_at.Lts as lts
 
--- src/bytes.rt:11:16
 shared-slice-read-result : tie.Need-shared-slice-read-result
 shared-slice-read-result c = search needs
 
--- src/bytes.rt:11:9
 returns : tie.Need-returns
 returns c = search needs
 
--- src/bytes.rt:7:1
 returns-2 : tie.Need-returns-2
 returns-2 c = sym (List·getD-eq-default (c .before .args .bs .now) 0 (c .if1 .left))
 

@@ -1,59 +1,44 @@
+-- `tree::bytes::word_at` meets its contract. Assumes nothing.
 use native.Mathlib.Omega.{arith}
 use Rattle.protocol.specs.Bytes.{numberAfter}
 use Rattle.tree.specs.Seen.{wordAt}
 use borrow.Author.Needs.{needs}
 use Rattle.tree.proofs.bytes.word_at.Statement.{statement}
 use Rattle.tree.proofs.bytes.word_at.Tie as tie
-use Rattle.tree.proofs.bytes.word_at.Reads as reads
-use Rattle.tree.proofs.bytes.word_at.Lts as lts
-use Rattle.tree.proofs.bytes.byte_at.Reads as byte-at-reads
-use Rattle.tree.proofs.bytes.with_byte.Reads as with-byte-reads
 
--- src/bytes.rt:46:28
 byte-at-requires : tie.Need-byte-at-requires
 byte-at-requires c κs = search needs
 
--- src/bytes.rt:46:9
 with-byte-requires : tie.Need-with-byte-requires
 with-byte-requires c κs = search needs
 
--- src/bytes.rt:47:42
 add-byte-at : tie.Need-add-byte-at
 add-byte-at c = search needs
 
--- src/bytes.rt:47:30
 byte-at-requires-2 : tie.Need-byte-at-requires-2
 byte-at-requires-2 c κs = search needs
 
--- src/bytes.rt:47:9
 with-byte-requires-2 : tie.Need-with-byte-requires-2
 with-byte-requires-2 c κs = search needs
 
--- src/bytes.rt:48:44
 add-byte-at-2 : tie.Need-add-byte-at-2
 add-byte-at-2 c = search needs
 
--- src/bytes.rt:48:32
 byte-at-requires-3 : tie.Need-byte-at-requires-3
 byte-at-requires-3 c κs = search needs
 
--- src/bytes.rt:48:9
 with-byte-requires-3 : tie.Need-with-byte-requires-3
 with-byte-requires-3 c κs = search needs
 
--- src/bytes.rt:49:34
 add-byte-at-3 : tie.Need-add-byte-at-3
 add-byte-at-3 c = search needs
 
--- src/bytes.rt:49:22
 byte-at-requires-4 : tie.Need-byte-at-requires-4
 byte-at-requires-4 c κs = search needs
 
--- src/bytes.rt:49:5
 with-byte-requires-4 : tie.Need-with-byte-requires-4
 with-byte-requires-4 c κs = search needs
 
--- src/bytes.rt:42:1
 returns : tie.Need-returns
 unfolding wordAt numberAfter
 returns c = omega arith

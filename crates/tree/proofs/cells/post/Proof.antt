@@ -9,7 +9,7 @@ use Rattle.protocol.specs.Bytes.{bit}
 use Rattle.protocol.specs.Tree.{isLive, propertyIn}
 use Rattle.tree.specs.Seen.{seen}
 use Rattle.tree.specs.Lent.{isLent}
-use Rattle.tree.proofs.CellLaws.{posts-unsound, posts-other, posts-live, lent-by, worded, word-first, no-word, posted-size}
+use Rattle.tree.proofs.CellLaws.{posts-unsound, posts-other, posts-live, lent-done, worded, word-first, no-word, posted-size}
 use Rattle.tree.proofs.cells.post.Statement.{statement}
 use Rattle.tree.proofs.cells.post.Tie as tie
 
@@ -20,7 +20,7 @@ start-of c = c .before .before .before .before .before .before .before
 lent : (c : tie.After-is-live) → isLent (start-of c .args .tree .now) (start-of c .args .cells .now) ≡ true
 lent c =
     let checked = c .before .before in
-    lent-by (start-of c .args .tree .now) (start-of c .args .cells .now) (checked .before .check .ensures) (checked .if1 .left)
+    lent-done (start-of c .args .tree .now) (start-of c .args .cells .now) (checked .before .check .ensures) (checked .if1 .left)
 
 live : (c : tie.After-is-live) → isLive (propertyIn (seen (start-of c .args .tree .now)) (start-of c .args .place)) ≡ c .is-live .result
 live c = sym (c .is-live .ensures ∙ ap (bit bitLive) (c .before .read-fields .ensures .attribute))

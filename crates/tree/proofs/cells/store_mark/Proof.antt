@@ -8,7 +8,7 @@ use Rattle.tree.proofs.cells.store_mark.Tie as tie
 returns : tie.Need-returns
 returns c =
     let start = c .before in
-    mark-kept (start .args .cells .now) (start .args .place) (start .args .ready) (c .if1 .taken)
+    mark-kept (start .args .cells .now) (start .args .place) (start .args .mark) (c .if1 .taken)
 
 mul-at : tie.Need-mul-at
 mul-at c = search needs

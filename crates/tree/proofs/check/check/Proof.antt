@@ -1,13 +1,31 @@
 -- `tree::check::check` meets its contract. Assumes nothing.
-use mathlib.Core.Path.{refl, sym, _∙_}
+use mathlib.Core.Path.{_≡_, refl, sym, _∙_}
+use mathlib.Core.Bool.{true}
 use borrow.Author.Tests.{not-true, not-false, eq-eqb, ne-eqb}
 use borrow.Author.Needs.{needs}
 use lib.ListN.{length}
-use Rattle.tree.specs.Seen.{propertyCount}
-use Rattle.tree.specs.Cells.{cellsIn}
+use Rattle.tree.specs.Seen.{isTree, propertyCount}
+use Rattle.tree.specs.Cells.{cellsIn, hasCells}
+use Rattle.tree.proofs.SameLaws.{differ}
 use Rattle.tree.proofs.StepLaws.{lent-by}
 use Rattle.tree.proofs.check.check.Statement.{statement}
 use Rattle.tree.proofs.check.check.Tie as tie
+
+-- The tests passed.
+tree-holds : (c : tie.Else1) → isTree (c .before .before .before .before .args .tree .now) ≡ true
+tree-holds c = sym (c .before .is-tree .ensures) ∙ not-false (c .before .is-tree .result) (c .if1 .left)
+
+cells-hold : (c : tie.Else2) → hasCells (c .before .before .before .before .before .before .args .cells .now) ≡ true
+cells-hold c = sym (c .before .has-cells .ensures) ∙ not-false (c .before .has-cells .result) (c .if2 .left)
+
+-- The two counts that are compared, where both are read.
+cells-count : (c : tie.After-wide)
+    → c .before .before .count .result ≡ length (cellsIn (c .before .before .before .before .before .before .before .before .before .args .cells .now))
+cells-count c = c .before .before .count .ensures
+
+properties-count : (c : tie.After-wide)
+    → c .wide .result ≡ propertyCount (c .before .before .before .before .before .before .before .before .before .args .tree .now)
+properties-count c = c .wide .ensures ∙ c .before .byte-at .ensures
 
 is-tree-requires : tie.Need-is-tree-requires
 is-tree-requires c κs = search needs
@@ -15,8 +33,8 @@ is-tree-requires c κs = search needs
 returns : tie.Need-returns
 returns c =
     let treed = c .before in
-    let start = treed .before .before .before in
-    lent-by (start .args .tree .now) (start .args .cells .now)
+    let args = treed .before .before .before .args in
+    lent-by (args .tree .now) (args .cells .now)
     (sym (treed .is-tree .ensures) ∙ not-true (treed .is-tree .result) (c .if1 .taken)) refl refl
 
 has-cells-requires : tie.Need-has-cells-requires
@@ -25,10 +43,8 @@ has-cells-requires c κs = search needs
 returns-2 : tie.Need-returns-2
 returns-2 c =
     let celled = c .before in
-    let treed = celled .before .before in
-    let start = treed .before .before .before in
-    lent-by (start .args .tree .now) (start .args .cells .now)
-    (sym (treed .is-tree .ensures) ∙ not-false (treed .is-tree .result) (celled .before .if1 .left))
+    let args = celled .before .before .before .before .before .args in
+    lent-by (args .tree .now) (args .cells .now) (tree-holds (celled .before))
     (sym (celled .has-cells .ensures) ∙ not-true (celled .has-cells .result) (c .if2 .taken))
     refl
 
@@ -43,27 +59,19 @@ wide-requires c κs = search needs
 
 returns-3 : tie.Need-returns-3
 returns-3 c =
-    let counted = c .before .before .before in
-    let celled = counted .before .before in
-    let treed = celled .before .before in
-    let start = treed .before .before .before in
-    lent-by (start .args .tree .now) (start .args .cells .now)
-    (sym (treed .is-tree .ensures) ∙ not-false (treed .is-tree .result) (celled .before .if1 .left))
-    (sym (celled .has-cells .ensures) ∙ not-false (celled .has-cells .result) (counted .before .if2 .left))
-    (ne-eqb (length (cellsIn (start .args .cells .now))) (propertyCount (start .args .tree .now))
-    (λ e. c .if3 .taken (counted .count .ensures ∙ e ∙ sym (c .before .wide .ensures ∙ c .before .before .byte-at .ensures))))
+    let celled = c .before .before .before .before in
+    let args = celled .before .before .before .before .before .before .args in
+    lent-by (args .tree .now) (args .cells .now) (tree-holds (celled .before .before)) (cells-hold celled)
+    (ne-eqb (length (cellsIn (args .cells .now))) (propertyCount (args .tree .now))
+    (differ (cells-count (c .before)) (properties-count (c .before)) (c .if3 .taken)))
 
 returns-4 : tie.Need-returns-4
 returns-4 c =
-    let counted = c .before .before .before in
-    let celled = counted .before .before in
-    let treed = celled .before .before in
-    let start = treed .before .before .before in
-    lent-by (start .args .tree .now) (start .args .cells .now)
-    (sym (treed .is-tree .ensures) ∙ not-false (treed .is-tree .result) (celled .before .if1 .left))
-    (sym (celled .has-cells .ensures) ∙ not-false (celled .has-cells .result) (counted .before .if2 .left))
-    (eq-eqb (length (cellsIn (start .args .cells .now))) (propertyCount (start .args .tree .now))
-    (sym (counted .count .ensures) ∙ c .if3 .left ∙ c .before .wide .ensures ∙ c .before .before .byte-at .ensures))
+    let celled = c .before .before .before .before in
+    let args = celled .before .before .before .before .before .before .args in
+    lent-by (args .tree .now) (args .cells .now) (tree-holds (celled .before .before)) (cells-hold celled)
+    (eq-eqb (length (cellsIn (args .cells .now))) (propertyCount (args .tree .now))
+    (sym (cells-count (c .before)) ∙ c .if3 .left ∙ properties-count (c .before)))
 
 pub check-spec : {M : Type 1} → statement M
 check-spec =

@@ -12,7 +12,7 @@ use Rattle.tree.specs.Form.{nodeSize, propertySize, textsStart}
 use Rattle.tree.specs.Seen.{nodeCount, propertyCount, isTree}
 use Rattle.tree.specs.Check.{countsFit, parentsIn, lineageSound, nodeEnd, recordsEnd, checked}
 use Rattle.tree.specs.Lent.{foundOf}
-use Rattle.tree.proofs.StepLaws.{uncounted, counted-size, counted-start, names-within, parentless, nameless, labelless, all-read}
+use Rattle.tree.proofs.StepLaws.{counts, uncounted, names-within, parentless, nameless, labelless, all-read}
 use Rattle.tree.proofs.CheckLaws.{checked-exact}
 use Rattle.tree.proofs.check.is_tree.Statement.{statement}
 use Rattle.tree.proofs.check.is_tree.Tie as tie
@@ -26,26 +26,20 @@ counts-hold : (c : tie.Else1) → countsFit (c .before .before .before .args .tr
 counts-hold c = sym (c .before .counts-fit .ensures) ∙ not-false (c .before .counts-fit .result) (c .if1 .left)
 
 parents-hold : (c : tie.Else2)
-    → (leb (nodeCount (c .before .before .before .before .before .args .tree .now)) maxNodes
-    && lineageSound (parentsIn (c .before .before .before .before .before .args .tree .now)))
-    ≡ true
+    → let bs = c .before .before .before .before .before .args .tree .now in
+    (leb (nodeCount bs) maxNodes && lineageSound (parentsIn bs)) ≡ true
 parents-hold c = sym (c .before .parents-sound .ensures) ∙ not-false (c .before .parents-sound .result) (c .if2 .left)
 
 -- Where the texts begin, and the end of the names.
 start-is : (c : tie.After-wide)
-    → c .before .before .properties-start .result + c .wide .result * propertySize
-    ≡ textsStart (nodeCount (c .before .before .before .before .before .before .before .before .args .tree .now))
-    (propertyCount (c .before .before .before .before .before .before .before .before .args .tree .now))
+    → let bs = c .before .before .before .before .before .before .before .before .args .tree .now in
+    c .before .before .properties-start .result + c .wide .result * propertySize ≡ textsStart (nodeCount bs) (propertyCount bs)
 start-is c = ap₂ (λ m n. m + n * propertySize) (c .before .before .properties-start .ensures) (c .wide .ensures)
 
 names-is : (c : tie.After-names-end)
-    → c .names-end .result
-    ≡ foundOf
-    (recordsEnd nodeSize (nodeEnd (c .before .before .before .before .before .before .before .before .before .args .tree .now))
-    (nodeCount (c .before .before .before .before .before .before .before .before .before .args .tree .now))
-    (drop 2 (c .before .before .before .before .before .before .before .before .before .args .tree .now))
-    (textsStart (nodeCount (c .before .before .before .before .before .before .before .before .before .args .tree .now))
-    (propertyCount (c .before .before .before .before .before .before .before .before .before .args .tree .now))))
+    → let bs = c .before .before .before .before .before .before .before .before .before .args .tree .now in
+    c .names-end .result
+    ≡ foundOf (recordsEnd nodeSize (nodeEnd bs) (nodeCount bs) (drop 2 bs) (textsStart (nodeCount bs) (propertyCount bs)))
 names-is c =
     let bs = c .before .before .before .before .before .before .before .before .before .args .tree .now in
     c .names-end .ensures ∙ ap (λ n. foundOf (recordsEnd nodeSize (nodeEnd bs) (nodeCount bs) (drop 2 bs) n)) (start-is (c .before))
@@ -74,7 +68,8 @@ properties-start-requires : tie.Need-properties-start-requires
 properties-start-requires c κs = search needs
 
 shared-slice-read-wide : tie.Need-shared-slice-read-wide
-shared-slice-read-wide c = counted-size (c .before .before .before .before .before .before .before .args .tree .now) (counts-hold (c .before .before .before .before))
+shared-slice-read-wide c =
+    counts (c .before .before .before .before .before .before .before .args .tree .now) (counts-hold (c .before .before .before .before)) .two
 
 wide-requires : tie.Need-wide-requires
 wide-requires c κs = search needs
@@ -90,8 +85,8 @@ add-start c =
 names-end-requires : tie.Need-names-end-requires
 names-end-requires c κs =
     let start = c .before .before .before .before .before .before .before .before in
-    let counts = c .before .before .before .before .before in
-    omega (arith, start-is c, counted-start (start .args .tree .now) (counts-hold counts))
+    let passed = c .before .before .before .before .before in
+    omega (arith, start-is c, counts (start .args .tree .now) (counts-hold passed) .records)
 
 enum-known-mid : tie.Need-enum-known-mid
 enum-known-mid c = search needs

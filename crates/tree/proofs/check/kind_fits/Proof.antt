@@ -1,10 +1,11 @@
 -- `tree::check::kind_fits` meets its contract. Assumes nothing.
-use mathlib.Core.Path.{ap, _∙_}
+use mathlib.Core.Path.{refl, ap, _∙_}
 use borrow.Author.Tests.{eq-eqb, ne-eqb}
 use borrow.Author.Needs.{needs}
 use Rattle.protocol.specs.Numbers.{standard, enumeration}
 use Rattle.protocol.specs.Bytes.{atMost}
-use Rattle.tree.specs.Check.{kindFits}
+use Rattle.tree.specs.Lent.{numbersOf}
+use Rattle.tree.proofs.StepLaws.{kind-by}
 use Rattle.tree.proofs.check.kind_fits.Statement.{statement}
 use Rattle.tree.proofs.check.kind_fits.Tie as tie
 
@@ -15,38 +16,35 @@ at-most-requires : tie.Need-at-most-requires
 at-most-requires c κs = search needs
 
 returns : tie.Need-returns
-unfolding kindFits
 returns c =
     let f = c .before .before .before .before .args .f in
     c .at-most .ensures
     ∙ ap (λ s. atMost s (f .min) (f .max)) (c .before .is-signed .ensures)
-    ∙ simp (eq-eqb (f .kind) standard (c .before .before .if1 .taken))
+    ∙ kind-by (numbersOf f) (eq-eqb (f .kind) standard (c .before .before .if1 .taken)) refl refl
 
 returns-2 : tie.Need-returns-2
-unfolding kindFits
 returns-2 c =
     let f = c .before .before .before .before .args .f in
-    simp (ne-eqb (f .kind) standard (c .before .before .if1 .left), ne-eqb (f .kind) enumeration (c .if2 .taken))
+    kind-by (numbersOf f)
+    (ne-eqb (f .kind) standard (c .before .before .if1 .left))
+    (ne-eqb (f .kind) enumeration (c .if2 .taken))
+    refl
 
 returns-3 : tie.Need-returns-3
-unfolding kindFits
 returns-3 c =
     let f = c .before .before .before .before .before .before .args .f in
-    simp (
-      ne-eqb (f .kind) standard (c .before .before .before .before .if1 .left),
-      eq-eqb (f .kind) enumeration (c .before .before .if2 .left),
-      ne-eqb (f .min) 0 (c .if3 .taken),
-    )
+    kind-by (numbersOf f)
+    (ne-eqb (f .kind) standard (c .before .before .before .before .if1 .left))
+    (eq-eqb (f .kind) enumeration (c .before .before .if2 .left))
+    (ne-eqb (f .min) 0 (c .if3 .taken))
 
 returns-4 : tie.Need-returns-4
-unfolding kindFits
 returns-4 c =
     let f = c .before .before .before .before .before .before .before .args .f in
-    simp (
-      ne-eqb (f .kind) standard (c .before .before .before .before .before .if1 .left),
-      eq-eqb (f .kind) enumeration (c .before .before .before .if2 .left),
-      eq-eqb (f .min) 0 (c .before .if3 .left),
-    )
+    kind-by (numbersOf f)
+    (ne-eqb (f .kind) standard (c .before .before .before .before .before .if1 .left))
+    (eq-eqb (f .kind) enumeration (c .before .before .before .if2 .left))
+    (eq-eqb (f .min) 0 (c .before .if3 .left))
 
 pub kind-fits-spec : {M : Type 1} → statement M
 kind-fits-spec =

@@ -1,6 +1,7 @@
 -- `tree::check::node_end` meets its contract. Assumes nothing.
-use mathlib.Core.Path.{sym, _∙_}
+use mathlib.Core.Path.{refl, sym, _∙_}
 use borrow.Author.Needs.{needs}
+use Rattle.tree.proofs.SameLaws.{differ}
 use Rattle.tree.proofs.StepLaws.{node-elsewhere, node-ends}
 use Rattle.tree.proofs.check.node_end.Statement.{statement}
 use Rattle.tree.proofs.check.node_end.Tie as tie
@@ -21,7 +22,7 @@ returns : tie.Need-returns
 returns c =
     let start = c .before .before .before in
     node-elsewhere (start .args .tree .now) (start .args .k) (start .args .at)
-    (λ e. c .if1 .taken (c .before .half-at .ensures ∙ e))
+    (differ {n = start .args .at} (c .before .half-at .ensures) refl (c .if1 .taken))
 
 texts-end-requires : tie.Need-texts-end-requires
 texts-end-requires c κs = search needs

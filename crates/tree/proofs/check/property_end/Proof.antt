@@ -1,7 +1,7 @@
 -- `tree::check::property_end` meets its contract. Assumes nothing.
 use Prim.Native.Nat.{_+_, _*_}
 use native.Mathlib.Omega.{arith}
-use mathlib.Core.Path.{_≡_, sym, ap, _∙_}
+use mathlib.Core.Path.{_≡_, refl, sym, ap, _∙_}
 use borrow.Author.Tests.{not-true, not-false}
 use borrow.Author.Needs.{needs}
 use Rattle.protocol.specs.Numbers.{maxTexts}
@@ -9,19 +9,17 @@ use Rattle.tree.specs.Form.{propertySize, propertiesStart}
 use Rattle.tree.specs.Seen.{halfAt, nodeCount}
 use Rattle.tree.specs.Check.{textsEndIn, nameRoom}
 use Rattle.tree.specs.Lent.{foundOf}
+use Rattle.tree.proofs.FoundLaws.{found-at}
+use Rattle.tree.proofs.SameLaws.{differ}
 use Rattle.tree.proofs.TextLaws.{texts-within}
-use Rattle.tree.proofs.StepLaws.{found-at, property-unfit, property-elsewhere, property-unnamed, property-ends}
+use Rattle.tree.proofs.StepLaws.{property-unfit, property-elsewhere, property-unnamed, property-ends}
 use Rattle.tree.proofs.check.property_end.Statement.{statement}
 use Rattle.tree.proofs.check.property_end.Tie as tie
 
 -- Where the record says that its texts begin.
 half-is : (m : tie.After-half-at)
-    → m .half-at .result
-    ≡ halfAt
-    (propertiesStart (nodeCount (m .before .before .before .before .before .before .before .before .args .tree .now))
-    + m .before .before .before .before .before .before .before .before .args .k * propertySize
-    + 14)
-    (m .before .before .before .before .before .before .before .before .args .tree .now)
+    → let args = m .before .before .before .before .before .before .before .before .args in
+    m .half-at .result ≡ halfAt (propertiesStart (nodeCount (args .tree .now)) + args .k * propertySize + 14) (args .tree .now)
 half-is m =
     let start = m .before .before .before .before .before .before .before .before in
     m .half-at .ensures
@@ -79,7 +77,7 @@ returns-2 c =
     let start = count .before .before .before .before in
     property-elsewhere (start .args .tree .now) (start .args .k) (start .args .at)
     (count .wide .ensures ∙ count .before .byte-at .ensures) (start .pre .0) (count .before .before .read-fields .ensures)
-    (λ e. c .if2 .taken (half-is (c .before) ∙ e))
+    (differ (half-is (c .before)) refl (c .if2 .taken))
 
 texts-end-requires : tie.Need-texts-end-requires
 texts-end-requires c κs = search needs
@@ -122,12 +120,15 @@ returns-4 c =
     let fit = c .before .before .before .before .before .before .before .before .before .before in
     let count = fit .before in
     let start = count .before .before .before .before in
+    let ended : c .texts-end2 .result
+    ≡ foundOf (textsEndIn (start .args .tree .now) maxTexts (c .before .option-count .result) (told .mid .given .0 .0)) =
+    c .texts-end2 .ensures in
     property-ends (start .args .tree .now) (start .args .k) (start .args .at)
     (count .wide .ensures ∙ count .before .byte-at .ensures) (start .pre .0) (count .before .before .read-fields .ensures)
     (sym (fit .fields-fit .ensures) ∙ not-false (fit .fields-fit .result) (here .before .before .before .if1 .left))
     (sym (half-is (here .before)) ∙ here .if2 .left)
     (sym (told .mid .given .1) ∙ named .texts-end .ensures)
-    (c .texts-end2 .ensures ∙ ap (λ n. foundOf (textsEndIn (start .args .tree .now) maxTexts n (told .mid .given .0 .0))) (c .before .option-count .ensures))
+    (ended ∙ ap (λ n. foundOf (textsEndIn (start .args .tree .now) maxTexts n (told .mid .given .0 .0))) (c .before .option-count .ensures))
 
 pub property-end-spec : {M : Type 1} → statement M
 property-end-spec =

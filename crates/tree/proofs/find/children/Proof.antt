@@ -1,8 +1,9 @@
 -- `tree::find::children` meets its contract. Assumes nothing.
 use borrow.Author.Needs.{needs}
 use native.Mathlib.Omega.{arith}
-use mathlib.Core.Path.{ap, _∙_}
+use mathlib.Core.Path.{_≡_, ap, _∙_}
 use lib.ListN.{length}
+use Rattle.tree.specs.Find.{belonging}
 use Rattle.tree.proofs.FindLaws.{children-in, children-small}
 use Rattle.tree.proofs.find.children.Statement.{statement}
 use Rattle.tree.proofs.find.children.Tie as tie
@@ -18,7 +19,8 @@ count-in-requires c κs =
 returns : tie.Need-returns
 returns c =
     let args = c .before .before .before .args in
-    c .count-in .ensures
+    let counted : c .count-in .result ≡ length (belonging (args .tree .now) (c .before .children-table .result) (args .node)) = c .count-in .ensures in
+    counted
     ∙ ap length (children-in (args .tree .now) (args .node) (c .before .children-table .ensures))
 
 pub children-spec : {M : Type 1} → statement M

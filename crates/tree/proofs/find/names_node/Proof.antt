@@ -4,9 +4,10 @@ use borrow.Author.Needs.{needs}
 use borrow.Author.Tests.{eq-eqb, ne-eqb}
 use native.Mathlib.Omega.{arith}
 use native.Mathlib.Nat.{mul-le-mul, le-of-lt}
-use mathlib.Core.Path.{_≡_, ap, sym, _∙_}
+use mathlib.Core.Path.{_≡_, ap, refl, sym, _∙_}
 use mathlib.Core.Bool.{cond}
 use lib.ListN.{getD}
+use Rattle.tree.proofs.SameLaws.{differ}
 use Rattle.tree.proofs.find.names_node.Statement.{statement}
 use Rattle.tree.proofs.find.names_node.Tie as tie
 
@@ -43,7 +44,7 @@ returns c =
 returns-2 : tie.Need-returns-2
 returns-2 c =
     let args = c .before .before .before .before .before .before .args in
-    sym (ap (λ t. cond t 1 0) (ne-eqb (byte (c .before)) (args .node) (λ e. c .if1 .left (reads (c .before) ∙ e))))
+    sym (ap (λ t. cond t 1 0) (ne-eqb (byte (c .before)) (args .node) (differ (reads (c .before)) refl (c .if1 .left))))
 
 pub names-node-spec : {M : Type 1} → statement M
 names-node-spec =

@@ -7,7 +7,8 @@ use lib.ListN.{length, getD}
 use Rattle.protocol.specs.Tree.{childOf}
 use Rattle.tree.specs.Seen.{seen}
 use Rattle.tree.specs.Lent.{foundOf}
-use Rattle.tree.proofs.FindLaws.{found-some, found-none, Walking, walk-empty, walk-other, walk-begins, walk-lost, walk-more, walk-ends}
+use Rattle.tree.proofs.FoundLaws.{found-at, found-none}
+use Rattle.tree.proofs.FindLaws.{Walking, walk-empty, walk-other, walk-begins, walk-lost, walk-more, walk-ends}
 use Rattle.tree.proofs.find.node.Statement.{statement}
 use Rattle.tree.proofs.find.node.Tie as tie
 
@@ -71,7 +72,7 @@ loop-again c =
     let args = in-loop .before .before .before .before .before .before .before .args in
     let child = childOf (seen (args .tree .now)) (in-loop .before .loop .place) (record { 0 = getD (args .path .now) (in-loop .before .loop .i) 0 }) in
     walk-more (seen (args .tree .now)) (args .path .now) (in-loop .before .loop .inv) (in-loop .loop-test .taken)
-    (found-some child (sym (told .next .given .1) ∙ asked .child .ensures))
+    (found-at child (sym (told .next .given .1) ∙ asked .child .ensures))
 
 returns-4 : tie.Need-returns-4 Inv-loop μ-loop
 returns-4 c =

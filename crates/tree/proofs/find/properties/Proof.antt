@@ -1,8 +1,9 @@
 -- `tree::find::properties` meets its contract. Assumes nothing.
 use borrow.Author.Needs.{needs}
 use native.Mathlib.Omega.{arith}
-use mathlib.Core.Path.{ap, _∙_}
+use mathlib.Core.Path.{_≡_, ap, _∙_}
 use lib.ListN.{length}
+use Rattle.tree.specs.Find.{belonging}
 use Rattle.tree.proofs.FindLaws.{properties-in, properties-small}
 use Rattle.tree.proofs.find.properties.Statement.{statement}
 use Rattle.tree.proofs.find.properties.Tie as tie
@@ -18,7 +19,8 @@ count-in-requires c κs =
 returns : tie.Need-returns
 returns c =
     let args = c .before .before .before .args in
-    c .count-in .ensures
+    let counted : c .count-in .result ≡ length (belonging (args .tree .now) (c .before .properties-table .result) (args .node)) = c .count-in .ensures in
+    counted
     ∙ ap length (properties-in (args .tree .now) (args .node) (c .before .properties-table .ensures))
 
 pub properties-spec : {M : Type 1} → statement M

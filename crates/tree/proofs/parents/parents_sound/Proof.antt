@@ -3,6 +3,7 @@ use Prim.Native.Nat.{_-_}
 use native.Mathlib.Omega.{arith}
 use mathlib.Core.Path.{refl, sym, _∙_}
 use borrow.Author.Needs.{needs}
+use Rattle.tree.proofs.SameLaws.{differ}
 use Rattle.tree.proofs.ParentLaws.{Descending, too-many, no-device, device-elsewhere, descend-begins, descend-behind, descend-deep, descend-on, descend-ends}
 use Rattle.tree.proofs.parents.parents_sound.Statement.{statement}
 use Rattle.tree.proofs.parents.parents_sound.Tie as tie
@@ -31,7 +32,7 @@ byte-at-requires-2 c κs = search needs
 returns-3 : tie.Need-returns-3 Inv-loop μ-loop
 returns-3 c =
     device-elsewhere (c .before .before .before .before .before .before .before .args .tree .now) (omega arith) (omega arith)
-    (λ e. c .if3 .taken (c .before .byte-at2 .ensures ∙ e))
+    (differ (c .before .byte-at2 .ensures) refl (c .if3 .taken))
 
 array-write-depths : tie.Need-array-write-depths Inv-loop μ-loop
 array-write-depths c = search needs

@@ -2,23 +2,26 @@
 use Prim.Native.Nat.{_-_}
 use native.Mathlib.Omega.{arith}
 use borrow.Author.Needs.{needs}
-use lib.ListN.{length}
+use lib.ListN.{length, drop}
+use Rattle.protocol.specs.Bytes.{texts}
+use Rattle.tree.specs.Seen.{textsFrom}
 use Rattle.tree.proofs.TextLaws.{Copying, copy-begins, copy-more, copy-full, copy-ends}
 use Rattle.tree.proofs.texts.put_texts.Statement.{statement}
 use Rattle.tree.proofs.texts.put_texts.Tie as tie
 
 abbrev Inv-loop : tie.InvT-loop
-Inv-loop tree from count out₀ at left₀ next₀ i₀ out left next i = Copying tree from count out₀ at out left next i
+Inv-loop tree from count out₀ at left₀ next₀ i₀ out left next i = Copying tree (texts (textsFrom count (drop from tree))) out₀ at out left next i
 
 abbrev μ-loop : tie.MeasureT-loop
 μ-loop tree from count out₀ at left₀ next₀ i₀ out left next i = length out₀ - next
 
 loop-holds : tie.Need-loop-holds Inv-loop μ-loop
 loop-holds c =
-    copy-begins
+    let args = c .before .before .args in
+    copy-begins (args .tree .now) (args .out .now) (args .at) (args .from) (args .count)
 
 same-length : tie.Need-same-length Inv-loop μ-loop
-same-length c = c .before .before .loop .inv .size
+same-length c = c .before .before .loop .inv .fill .same
 
 returns : tie.Need-returns Inv-loop μ-loop
 returns c =
@@ -50,12 +53,10 @@ loop-again c =
     (c .before .before .byte-at .ensures) (c .left-after .ensures) (c .before .after .ensures)
 
 same-length-2 : tie.Need-same-length-2 Inv-loop μ-loop
-same-length-2 c = c .before .loop .inv .size
+same-length-2 c = c .before .loop .inv .fill .same
 
 returns-2 : tie.Need-returns-2 Inv-loop μ-loop
-returns-2 c =
-    let in-loop = c in
-    copy-full (in-loop .before .loop .inv) (in-loop .loop-test .left)
+returns-2 c = copy-full (c .before .loop .inv) (c .loop-test .left)
 
 pub put-texts-spec : {M : Type 1} → statement M
 put-texts-spec =

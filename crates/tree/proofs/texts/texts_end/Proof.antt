@@ -65,9 +65,7 @@ returns-2 c =
     (sym (c .enum-told2 .given .1) ∙ m .step-on .ensures)
 
 returns-3 : tie.Need-returns-3 Inv-loop μ-loop
-returns-3 c =
-    let in-loop = c in
-    scan-out (in-loop .before .loop .inv) (in-loop .loop-test .left)
+returns-3 c = scan-out (c .before .loop .inv) (c .loop-test .left)
 
 pub texts-end-spec : {M : Type 1} → statement M
 texts-end-spec =
