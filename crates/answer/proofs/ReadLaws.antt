@@ -144,33 +144,33 @@ asks bs {x} e len h =
 
 -- A string or datagram that was read: where the number is one of rows 2 to 7 it is that of the string; else the string is good,
 -- and what was read is its data.
+pub record Refused (r : Received) (x : declared.Asked) : Type 0 where
+  pub number : x .number ≡ r .number
+  pub bad : r .number ≡ done → ⊥
+
+pub record Read (r : Received) (x : declared.Asked) : Type 0 where
+  pub good : r .number ≡ done
+  pub is : askedIn x ≡ readRequest (r .payload)
+  pub asked : x .number ≡ done → Asks x
+
 module _ (r : Received) (early : Early r) {x : declared.Asked} (h : AskedIs (readPayload r) x) where
-  pub record Refused : Type 0 where
-    pub number : x .number ≡ r .number
-    pub bad : r .number ≡ done → ⊥
-
-  pub record Read : Type 0 where
-    pub good : r .number ≡ done
-    pub is : askedIn x ≡ readRequest (r .payload)
-    pub asked : x .number ≡ done → Asks x
-
   payload-done : r .number ≡ done → readPayload r ≡ readRequest (r .payload)
   payload-done e = readPayload-by r true (eq-eqb (r .number) done e)
 
   payload-bad : (r .number ≡ done → ⊥) → readPayload r ≡ declined (r .number)
   payload-bad u = readPayload-by r false (ne-eqb (r .number) done u)
 
-  pub row-of-string : 0 < x .number → x .number < disabled → Refused
+  pub row-of-string : 0 < x .number → x .number < disabled → Refused r x
   row-of-string p q =
       let bad : r .number ≡ done → ⊥ = λ e.
           let same : x .number ≡ readRequest (r .payload) .number = h .number ∙ ap (λ a. a .number) (payload-done e) in
           omega (arith, p, q, same, readRequest-told (r .payload) .late (λ d. omega (arith, p, same, d))) in
       record { number = h .number ∙ ap (λ a. a .number) (payload-bad bad); bad = bad }
 
-  pub row-of-data : (0 < x .number → disabled ≤ x .number) → Read
+  pub row-of-data : (0 < x .number → disabled ≤ x .number) → Read r x
   row-of-data u = go (eqb (r .number) done) refl
     where
-      go : (t : Bool) → eqb (r .number) done ≡ t → Read
+      go : (t : Bool) → eqb (r .number) done ≡ t → Read r x
       go true e =
           let good : r .number ≡ done = eqb-true (r .number) done e in
           let is : askedIn x ≡ readRequest (r .payload) = asked-is (readPayload r) h ∙ payload-done good in

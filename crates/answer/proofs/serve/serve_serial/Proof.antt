@@ -36,9 +36,7 @@ unrefused c = opened (call (start-of (c .before))) (c .before .lent-number .ensu
 abbrev else-of : tie.Else2 → tie.Else1
 else-of c = c .before .before .before
 
-good : (c : tie.Else2)
-    → let start = start-of (else-of c .before) in
-    Read (call start .string) (early-frame (start .args .address) (start .args .s .now)) (c .before .before .read-serial .ensures)
+good : (c : tie.Else2) → Read (call (start-of (else-of c .before)) .string) (c .before .before .read-serial .result)
 unfolding readSerial
 good c =
     let refusal = c .before in
@@ -46,6 +44,16 @@ good c =
     let start = start-of (else-of c .before) in
     row-of-data (call start .string) (early-frame (start .args .address) (start .args .s .now)) (read .read-serial .ensures)
     (row-false (read .read-serial .result .number) (refusal .is-frame-refusal .ensures) (c .if2 .left))
+
+-- The reply's data lies in the array.
+abbrev before-answer : tie.After-answer-asked → tie.Else2
+before-answer c = c .before .before .before
+
+within : (c : tie.After-answer-asked) → c .answer-asked .result .len ≤ length (c .answer-asked .last .1 .1 .1 .1 .0)
+within c =
+    let else2 = before-answer c in
+    let k = call (start-of (else-of else2 .before)) in
+    reply-within (answerTo k) (replies k (unrefused (else-of else2))) (omega arith) (answered-as k (good else2 .is) (c .answer-asked .ensures))
 
 lent-number-requires : tie.Need-lent-number-requires
 lent-number-requires c κs = search needs
@@ -85,19 +93,23 @@ returns-2 c =
     let row = row-true (read .read-serial .result .number) (refusal .is-frame-refusal .ensures) (then2 .if2 .taken) in
     let bad = row-of-string (call start .string) (early-frame (start .args .address) (start .args .s .now)) (read .read-serial .ensures) (row .0) (row .1) in
     turned (serve-refused (call start) (unrefused (read .before)) (bad .number) (bad .bad) (start .args .out .now))
-    (c .turned-away .ensures .0) (c .turned-away .ensures .1 .0) (c .turned-away .ensures .1 .1)
+    (c .turned-away2 .ensures .0) (c .turned-away2 .ensures .1 .0) (c .turned-away2 .ensures .1 .1)
 
 slice-aggregate-answer-asked : tie.Need-slice-aggregate-answer-asked
 slice-aggregate-answer-asked c = search needs
 
 answer-asked-requires : tie.Need-answer-asked-requires
-answer-asked-requires c κs = ?
+answer-asked-requires c κs =
+    let else2 = c .before .before in
+    (omega arith, (unrefused (else-of else2) .lent, good else2 .asked))
 
 array-share-prefix-payload : tie.Need-array-share-prefix-payload
-array-share-prefix-payload c = ?
+array-share-prefix-payload c = within (c .before .before .before)
 
 slice-aggregate-write-frame : tie.Need-slice-aggregate-write-frame
-slice-aggregate-write-frame c = ?
+slice-aggregate-write-frame c =
+    let answered = c .before .before .before .before in
+    part-size (answered .answer-asked .result .len) (answered .answer-asked .last .1 .1 .1 .1 .0) (within answered)
 
 write-frame-requires : tie.Need-write-frame-requires
 write-frame-requires c κs = search needs
@@ -109,7 +121,15 @@ same-length-4 : tie.Need-same-length-4
 same-length-4 c = search needs
 
 returns-3 : tie.Need-returns-3
-returns-3 c = ?
+returns-3 c =
+    let framed = c .before .before in
+    let answered = framed .before .before .before .before .before .before in
+    let else2 = before-answer answered in
+    let start = start-of (else-of else2 .before) in
+    let ready = unrefused (else-of else2) in
+    serve-answered (call start) ready (good else2 .good)
+    (as-serial (answerTo (call start)) (answered-as (call start) (good else2 .is) (answered .answer-asked .ensures)) (replies (call start) ready)
+    (start .args .address) (ready .roomy) (framed .write-frame .ensures))
 
 pub serve-serial-spec : {M : Type 1} → statement M
 serve-serial-spec =
