@@ -183,3 +183,16 @@ module _ (r : Received) (early : Early r) {x : declared.Asked} (h : AskedIs (rea
           let same : x .number ≡ r .number = h .number ∙ ap (λ a. a .number) (payload-bad (eqb-false (r .number) done e)) in
           let some-row : 0 < x .number = omega (arith, same, eqb-false (r .number) done e) in
           absurd (omega (arith, same, early .early, u some-row))
+
+-- Data of a good size, and of another.
+pub sized-done : (bs : List ℕ) → sizeNumber (length bs) ≡ done → ifSized bs (received bs) ≡ received bs
+unfolding ifSized
+sized-done bs e = ap (λ t. cond t (received bs) (refused (sizeNumber (length bs)))) (eq-eqb (sizeNumber (length bs)) done e)
+
+pub sized-refused : (bs : List ℕ) {n : ℕ} → n ≡ sizeNumber (length bs) → (n ≡ done → ⊥)
+    → (n ≡ ifSized bs (received bs) .number) × (ifSized bs (received bs) .number ≡ done → ⊥)
+unfolding ifSized
+sized-refused bs {n} e u =
+    let is : n ≡ cond (eqb (sizeNumber (length bs)) done) (received bs) (refused (sizeNumber (length bs))) .number =
+    e ∙ sym (ap (λ t. cond t (received bs) (refused (sizeNumber (length bs))) .number) (ne-eqb (sizeNumber (length bs)) done (λ d. u (e ∙ d)))) in
+    (is, λ d. u (is ∙ d))

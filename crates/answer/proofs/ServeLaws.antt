@@ -9,7 +9,8 @@ use mathlib.Core.List.{List, [], _∷_, _++_}
 use mathlib.Core.Option.{Option, none, some}
 use borrow.Rule.Slice.PartMut.{putMid}
 use borrow.Author.Tests.{ltb-true, ltb-false, lt-ltb, le-ltb, eq-eqb, ne-eqb}
-use lib.ListN.{length, take, drop}
+use lib.ListN.{length, take, drop, length-append, length-take}
+use lib.Seq.{length-take-le}
 use lib.Dec.{eqb, ltb}
 use Rattle.protocol.specs.Numbers.{done, unsound, noRoom, disabled, roomData, roomSerial, roomUdp}
 use Rattle.protocol.specs.Frame.{Received, received, Sized, frame, datagram, ifRoom, writeFrame}
@@ -18,7 +19,7 @@ use Rattle.protocol.specs.Request.{Asked, readRequest}
 use Rattle.protocol.specs.Tree.{Tree, Cell, sound}
 use Rattle.protocol.specs.Answer.{Answer, answer}
 use Rattle.protocol.proofs.TestLaws.{and-left, and-right}
-use Rattle.protocol.proofs.BufferLaws.{over-put, over-nil, put-fits, put-room}
+use Rattle.protocol.proofs.BufferLaws.{over-put, over-nil, put-fits, put-room, part-back}
 use Rattle.protocol.proofs.AnswerLaws.{reply-sized}
 use Rattle.frame.proofs.UdpLaws.{emits-datagram}
 use Rattle.request.proofs.WriteLaws.{put-front, emits-formed}
@@ -183,14 +184,16 @@ module _ (a : Answer) {n size action : ℕ} {cells′ out out′ : List ℕ} (h 
 abbrev pub zeros : List ℕ
 zeros = 0 ∷ 0 ∷ 0 ∷ 0 ∷ []
 
-pub as-udp : (a : Answer) {n size action front : ℕ} {cells′ lent part mid new : List ℕ} → 4 ≤ length lent
+pub as-udp : (a : Answer) {n size action front : ℕ} {cells′ lent part new : List ℕ} → 4 ≤ length lent
     → Answers a (take (length lent - 4) (drop 4 lent)) n size action cells′ part
-    → mid ≡ putMid 4 (length lent - 4) lent part
-    → 4 ≤ length mid → Put 0 (fitting 0 zeros mid) mid front new
+    → Put 0 (fitting 0 zeros (putMid 4 (length lent - 4) lent part)) (putMid 4 (length lent - 4) lent part) front new
     → Serves (inForm datagram a) lent n (front + size) action cells′ new
-as-udp a {size = size} {front = front} {lent = lent} {part = part} {mid = mid} {new = new} four h m k p =
-    let whole : Put 0 zeros mid front new = put-fits (omega arith) p in
-    let w = emits-datagram (a .reply) lent four (h .reply) (whole .bytes ∙ over-put zeros mid ∙ ap (over zeros) m) in
+as-udp a {size = size} {front = front} {lent = lent} {part = part} {new = new} four h p =
+    let mid : List ℕ = putMid 4 (length lent - 4) lent part in
+    let long : 4 ≤ length mid =
+    omega (arith, ap length (part-back 4 lent part four), length-append (take 4 lent) part, length-take-le 4 lent four) in
+    let whole : Put 0 zeros mid front new = put-fits (omega (arith, long)) p in
+    let w = emits-datagram (a .reply) lent four (h .reply) (whole .bytes ∙ over-put zeros mid) in
     record {
       number = h .number;
       len = ap (λ k. k + size) (whole .next) ∙ w .len;
@@ -198,6 +201,12 @@ as-udp a {size = size} {front = front} {lent = lent} {part = part} {mid = mid} {
       cells = h .cells;
       bytes = w .bytes;
     }
+
+pub front-short : (mid : List ℕ) {front : ℕ} {new : List ℕ} → Put 0 (fitting 0 zeros mid) mid front new → front ≤ 4
+front-short mid p = omega (arith, p .next, length-take (length mid - 0) zeros)
+
+pub reply-short : (a : Answer) → Sized (a .reply) → {out cells′ out′ : List ℕ} {n size action : ℕ} → Answers a out n size action cells′ out′ → size ≤ 256
+reply-short a sized h = omega (arith, h .reply .next, sized .most)
 
 -- The reply of an answer lies within its 256 bytes.
 pub reply-within : (a : Answer) → Sized (a .reply) → {out cells′ out′ : List ℕ} {n size action : ℕ} → 256 ≤ length out

@@ -1,14 +1,12 @@
 -- `answer::serve::serve_serial` meets its contract. Assumes nothing.
 use Prim.Native.Nat.{_≤_}
 use native.Mathlib.Omega.{arith}
-use mathlib.Core.Path.{_≡_}
 use borrow.Author.Needs.{needs}
-use lib.ListN.{length, replicate}
+use lib.ListN.{length}
 use Rattle.protocol.specs.Numbers.{roomSerial}
 use Rattle.protocol.specs.Frame.{frame, readFrame}
 use Rattle.protocol.specs.Request.{readSerial}
 use Rattle.request.proofs.WriteLaws.{part-size}
-use Rattle.answer.specs.Reply.{Answers}
 use Rattle.answer.proofs.ReadLaws.{Read, early-frame, row-of-string, row-of-data}
 use Rattle.answer.proofs.ServeLaws.{turned, row-true, row-false, Call, answerTo, Open, opened, serve-unlent, serve-refused, serve-answered, replies, answered-as, as-serial, reply-within}
 use Rattle.answer.proofs.serve.serve_serial.Statement.{statement}
