@@ -24,15 +24,15 @@ use Rattle.answer.specs.Reply.{requestIn, askedIn, Asks}
 -- A reading of data: with 0 its request has an op, and its other numbers come after 9.
 record Reads (op : ℕ) (a : Asked) : Type 0 where
   is : a .number ≡ done → a .request .op ≡ op
-  late : (a .number ≡ done → ⊥) → disabled < a .number
+  late : (a .number ≡ done → ⊥) → (disabled < a .number) × (a .number ≤ badParameter)
 
-reads-declined : (op n : ℕ) → disabled < n → Reads op (declined n)
-reads-declined op n h = record { is = λ e. absurd (omega (arith, h, e)); late = λ u. h }
+reads-declined : (op n : ℕ) → disabled < n → n ≤ badParameter → Reads op (declined n)
+reads-declined op n h k = record { is = λ e. absurd (omega (arith, h, e)); late = λ u. (h, k) }
 
 reads-asked : (r : Request) → Reads (r .op) (askedIf r)
 unfolding askedIf
 reads-asked r =
-    if-both (Reads (r .op)) (fits r) (record { is = λ e. refl; late = λ u. absurd (u refl) }) (reads-declined (r .op) badParameter (omega arith))
+    if-both (Reads (r .op)) (fits r) (record { is = λ e. refl; late = λ u. absurd (u refl) }) (reads-declined (r .op) badParameter (omega arith) (omega arith))
 
 reads-indexed : (op value : ℕ) (bs : List ℕ) → Reads op (readIndexed op value bs)
 unfolding readIndexed
@@ -45,23 +45,23 @@ reads-shape op bs =
     if-both (Reads op) (asksValue op)
     (if-both (Reads op) (eqb (length (drop (suc (beforeZero bs)) bs)) 4)
     (reads-indexed op _ (take (beforeZero bs) bs))
-    (reads-declined op badParameter (omega arith)))
+    (reads-declined op badParameter (omega arith) (omega arith)))
     (if-both (Reads op) (asksIndex op)
     (reads-indexed op 0 bs)
     (reads-asked (record { op = op; path = bs; index = 0; value = 0 })))
 
 pub record Told (a : Asked) : Type 0 where
   pub op : a .number ≡ done → a .request .op ≤ opWriteExtended
-  pub late : (a .number ≡ done → ⊥) → disabled < a .number
+  pub late : (a .number ≡ done → ⊥) → (disabled < a .number) × (a .number ≤ badParameter)
 
-told-declined : (n : ℕ) → disabled < n → Told (declined n)
-told-declined n h = record { op = λ e. absurd (omega (arith, h, e)); late = λ u. h }
+told-declined : (n : ℕ) → disabled < n → n ≤ badParameter → Told (declined n)
+told-declined n h k = record { op = λ e. absurd (omega (arith, h, e)); late = λ u. (h, k) }
 
 pub readRequest-told : (bs : List ℕ) → Told (readRequest bs)
 unfolding readRequest
-readRequest-told [] = told-declined badParameter (omega arith)
+readRequest-told [] = told-declined badParameter (omega arith) (omega arith)
 readRequest-told (c ∷ []) =
-    if-both Told (eqb c PDI) (told-declined badParameter (omega arith)) (told-declined unknownCommand (omega arith))
+    if-both Told (eqb c PDI) (told-declined badParameter (omega arith) (omega arith)) (told-declined unknownCommand (omega arith) (omega arith))
 readRequest-told (c ∷ op ∷ bs) =
     if-case Told (eqb c PDI && leb op opWriteExtended)
     (λ e.
@@ -70,7 +70,7 @@ readRequest-told (c ∷ op ∷ bs) =
         op = λ d. omega (arith, r .is d, leb-true op opWriteExtended (and-right (eqb c PDI) _ e));
         late = r .late;
       })
-    (λ e. told-declined unknownCommand (omega arith))
+    (λ e. told-declined unknownCommand (omega arith) (omega arith))
 
 pub readRequest-allowed : (bs : List ℕ) → readRequest bs .number ≡ done → Allowed (readRequest bs .request)
 readRequest-allowed bs h =
@@ -164,7 +164,7 @@ module _ (r : Received) (early : Early r) {x : declared.Asked} (h : AskedIs (rea
   row-of-string p q =
       let bad : r .number ≡ done → ⊥ = λ e.
           let same : x .number ≡ readRequest (r .payload) .number = h .number ∙ ap (λ a. a .number) (payload-done e) in
-          omega (arith, p, q, same, readRequest-told (r .payload) .late (λ d. omega (arith, p, same, d))) in
+          omega (arith, p, q, same, readRequest-told (r .payload) .late (λ d. omega (arith, p, same, d)) .0) in
       record { number = h .number ∙ ap (λ a. a .number) (payload-bad bad); bad = bad }
 
   pub row-of-data : (0 < x .number → disabled ≤ x .number) → Read r x

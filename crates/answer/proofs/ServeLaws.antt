@@ -28,7 +28,7 @@ use Rattle.tree.specs.Form.{formOf}
 use Rattle.tree.specs.Cells.{cellsForm, cellsIn, hasCells}
 use Rattle.tree.specs.Lent.{isLent, lentNumber}
 use Rattle.answer.specs.Reply.{actionNumber, answerAsked, Answers}
-use Rattle.answer.specs.Serve.{Service, turnedAway, inForm, serve, Serves}
+use Rattle.answer.specs.Serve.{Service, turnedAway, inForm, serve, Call, serving, Serves}
 
 -- What is read, answered, is its data answered.
 answered-data : (t : Tree) (cs : List Cell) (host : Bool) (bs : List ℕ) → answerAsked t cs host (readRequest bs) ≡ answer t cs host bs
@@ -78,19 +78,7 @@ row-true n e h =
 pub row-false : (n : ℕ) {t : Bool} → t ≡ (ltb 0 n && ltb n disabled) → t ≡ false → 0 < n → disabled ≤ n
 row-false n e h p = ltb-false n disabled (sym (ap (λ b. b && ltb n disabled) (lt-ltb 0 n p)) ∙ sym e ∙ h)
 
--- What a serving call is lent, and what it gives.
-pub record Call : Type 0 where
-  pub form : List ℕ → List ℕ
-  pub least : ℕ
-  pub room : ℕ
-  pub string : Received
-  pub host : Bool
-  pub tree : List ℕ
-  pub cells : List ℕ
-
-abbrev pub serving : Call → Service
-serving k = serve (k .form) (k .least) (k .room) (k .string) (k .host) (k .tree) (k .cells)
-
+-- Rows 1 and 8 of a call, and the answer to what it received.
 abbrev pub lentRow : Call → ℕ
 lentRow k = cond (isLent (k .tree) (k .cells)) (cond (ltb (k .room) (k .least)) noRoom done) unsound
 

@@ -42,6 +42,19 @@ serve form least room r host tree cells =
     (turnedAway cells (r .number))))
     (turnedAway cells unsound)
 
+-- What a serving call is lent, and what it gives.
+pub record Call : Type 0 where
+  pub form : List ℕ → List ℕ
+  pub least : ℕ
+  pub room : ℕ
+  pub string : Received
+  pub host : Bool
+  pub tree : List ℕ
+  pub cells : List ℕ
+
+abbrev pub serving : Call → Service
+serving k = serve (k .form) (k .least) (k .room) (k .string) (k .host) (k .tree) (k .cells)
+
 -- The three roads: request data, a serial string for the box's address, a datagram. A serial reply carries that address.
 abbrev pub serveData : ℕ → List ℕ → Bool → List ℕ → List ℕ → Service
 serveData room bs host tree cells = serve (λ reply. reply) roomData room (ifSized bs (received bs)) host tree cells

@@ -6,8 +6,9 @@ use lib.ListN.{length}
 use Rattle.protocol.specs.Numbers.{done, roomData}
 use Rattle.protocol.specs.Frame.{received, ifSized}
 use Rattle.protocol.specs.Request.{readRequest}
+use Rattle.answer.specs.Serve.{Call}
 use Rattle.answer.proofs.ReadLaws.{sized-done, sized-refused, asked-is, asks}
-use Rattle.answer.proofs.ServeLaws.{turned, Call, answerTo, Open, opened, serve-unlent, serve-refused, serve-answered, answered-as, as-data}
+use Rattle.answer.proofs.ServeLaws.{turned, answerTo, Open, opened, serve-unlent, serve-refused, serve-answered, answered-as, as-data}
 use Rattle.answer.proofs.serve.serve_data.Statement.{statement}
 use Rattle.answer.proofs.serve.serve_data.Tie as tie
 

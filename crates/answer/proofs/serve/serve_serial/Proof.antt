@@ -7,8 +7,9 @@ use Rattle.protocol.specs.Numbers.{roomSerial}
 use Rattle.protocol.specs.Frame.{frame, readFrame}
 use Rattle.protocol.specs.Request.{readSerial}
 use Rattle.request.proofs.WriteLaws.{part-size}
+use Rattle.answer.specs.Serve.{Call}
 use Rattle.answer.proofs.ReadLaws.{Read, early-frame, row-of-string, row-of-data}
-use Rattle.answer.proofs.ServeLaws.{turned, row-true, row-false, Call, answerTo, Open, opened, serve-unlent, serve-refused, serve-answered, replies, answered-as, as-serial, reply-within}
+use Rattle.answer.proofs.ServeLaws.{turned, row-true, row-false, answerTo, Open, opened, serve-unlent, serve-refused, serve-answered, replies, answered-as, as-serial, reply-within}
 use Rattle.answer.proofs.serve.serve_serial.Statement.{statement}
 use Rattle.answer.proofs.serve.serve_serial.Tie as tie
 

@@ -7,8 +7,9 @@ use Rattle.protocol.specs.Numbers.{roomUdp}
 use Rattle.protocol.specs.Frame.{datagram, readDatagram}
 use Rattle.protocol.specs.Request.{readUdp}
 use Rattle.protocol.proofs.BufferLaws.{part-lent}
+use Rattle.answer.specs.Serve.{Call}
 use Rattle.answer.proofs.ReadLaws.{Read, early-datagram, row-of-string, row-of-data}
-use Rattle.answer.proofs.ServeLaws.{turned, row-true, row-false, Call, answerTo, Open, opened, serve-unlent, serve-refused, serve-answered, replies, answered-as, as-udp, front-short, reply-short}
+use Rattle.answer.proofs.ServeLaws.{turned, row-true, row-false, answerTo, Open, opened, serve-unlent, serve-refused, serve-answered, replies, answered-as, as-udp, front-short, reply-short}
 use Rattle.answer.proofs.serve.serve_udp.Statement.{statement}
 use Rattle.answer.proofs.serve.serve_udp.Tie as tie
 
