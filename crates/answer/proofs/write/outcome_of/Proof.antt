@@ -1,11 +1,20 @@
 -- `answer::write::outcome_of` meets its contract. Assumes nothing.
-use mathlib.Core.Path.{refl, sym, _∙_}
+use mathlib.Core.Path.{_≡_, refl, sym, _∙_}
+use mathlib.Core.Bool.{true}
 use borrow.Author.Needs.{needs}
 use borrow.Author.Tests.{not-true, not-false}
+use Rattle.protocol.specs.Tree.{canRead, canWrite}
 use Rattle.tree.specs.Lent.{numbersOf}
 use Rattle.answer.proofs.WriteLaws.{outcome-by}
 use Rattle.answer.proofs.write.outcome_of.Statement.{statement}
 use Rattle.answer.proofs.write.outcome_of.Tie as tie
+
+-- Behind the tests: the property can be writable, and it can be read.
+writable : (c : tie.Else1) → true ≡ canWrite (numbersOf (c .before .before .args .f))
+writable c = sym (not-false (c .before .can-write .result) (c .if1 .left)) ∙ c .before .can-write .ensures
+
+readable : (c : tie.Else2) → true ≡ canRead (numbersOf (c .before .before .before .before .args .f))
+readable c = sym (not-false (c .before .can-read .result) (c .if2 .left)) ∙ c .before .can-read .ensures
 
 can-write-requires : tie.Need-can-write-requires
 can-write-requires c κs = search needs
@@ -26,10 +35,9 @@ returns-2 : tie.Need-returns-2
 returns-2 c =
     let reads = c .before in
     let else1 = reads .before in
-    let writes = else1 .before in
-    let start = writes .before in
+    let start = else1 .before .before in
     outcome-by (numbersOf (start .args .f)) (start .args .value)
-    (sym (not-false (writes .can-write .result) (else1 .if1 .left)) ∙ writes .can-write .ensures)
+    (writable else1)
     (sym (not-true (reads .can-read .result) (c .if2 .taken)) ∙ reads .can-read .ensures)
     refl
 
@@ -40,26 +48,22 @@ returns-3 : tie.Need-returns-3
 returns-3 c =
     let range = c .before in
     let else2 = range .before in
-    let reads = else2 .before in
-    let else1 = reads .before in
-    let writes = else1 .before in
-    let start = writes .before in
+    let else1 = else2 .before .before in
+    let start = else1 .before .before in
     outcome-by (numbersOf (start .args .f)) (start .args .value)
-    (sym (not-false (writes .can-write .result) (else1 .if1 .left)) ∙ writes .can-write .ensures)
-    (sym (not-false (reads .can-read .result) (else2 .if2 .left)) ∙ reads .can-read .ensures)
+    (writable else1)
+    (readable else2)
     (sym (c .if3 .taken) ∙ range .in-range .ensures)
 
 returns-4 : tie.Need-returns-4
 returns-4 c =
     let range = c .before in
     let else2 = range .before in
-    let reads = else2 .before in
-    let else1 = reads .before in
-    let writes = else1 .before in
-    let start = writes .before in
+    let else1 = else2 .before .before in
+    let start = else1 .before .before in
     outcome-by (numbersOf (start .args .f)) (start .args .value)
-    (sym (not-false (writes .can-write .result) (else1 .if1 .left)) ∙ writes .can-write .ensures)
-    (sym (not-false (reads .can-read .result) (else2 .if2 .left)) ∙ reads .can-read .ensures)
+    (writable else1)
+    (readable else2)
     (sym (c .if3 .left) ∙ range .in-range .ensures)
 
 pub outcome-of-spec : {M : Type 1} → statement M
