@@ -2,3 +2,5 @@
 pub mod ReadLaws
 pub mod ServeLaws
 pub mod Demands
+pub mod ReplyLaws
+pub mod WriteLaws

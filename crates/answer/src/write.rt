@@ -6,6 +6,8 @@ use tree::STANDARD;
 use tree::record;
 use tree::record::Fields;
 ghost use mathlib.Core.Path.{_≡_};
+ghost use mathlib.Core.Bool.{_&&_};
+ghost use lib.Dec.{eqb};
 ghost use Rattle.protocol.specs.Answer.{inRange, outcome, saveByte};
 ghost use Rattle.tree.specs.Lent.{numbersOf};
 ghost use Rattle.answer.specs.Reply.{meaning};
@@ -18,6 +20,16 @@ pub enum Outcome {
     OutOfRange,
 }
 
+// Whether a property of type 1 takes any value: min and max are both 0.
+fn takes_any(f: Fields) -> bool
+    ensures { λ r. ⌜ r ≡ (eqb (f .min) 0 && eqb (f .max) 0) ⌝ }
+{
+    if f.min != 0 {
+        return false;
+    }
+    f.max == 0
+}
+
 // Whether a value lies in a property's range.
 fn in_range(f: Fields, value: u32) -> bool
     ensures { λ r. ⌜ r ≡ inRange (numbersOf f) value ⌝ }
@@ -25,10 +37,8 @@ fn in_range(f: Fields, value: u32) -> bool
     if f.kind != STANDARD {
         return value <= f.max;
     }
-    if f.min == 0 {
-        if f.max == 0 {
-            return true;
-        }
+    if takes_any(f) {
+        return true;
     }
     let signed = f.is_signed();
     if !record::at_most(signed, f.min, value) {

@@ -1,60 +1,50 @@
+-- `answer::reply::numbers` meets its contract. Assumes nothing.
+use mathlib.Core.Path.{refl}
 use borrow.Author.Needs.{needs}
+use Rattle.protocol.specs.Bytes.{half, word}
+use Rattle.answer.specs.Reply.{numbersIn}
 use Rattle.answer.proofs.reply.numbers.Statement.{statement}
 use Rattle.answer.proofs.reply.numbers.Tie as tie
-use Rattle.answer.proofs.reply.numbers.Reads as reads
-use Rattle.answer.proofs.reply.numbers.Lts as lts
 
--- src/reply.rt:63:9
 cast-t4 : tie.Need-cast-t4
 cast-t4 c = search needs
 
--- src/reply.rt:64:9
 cast-t7 : tie.Need-cast-t7
 cast-t7 c = search needs
 
--- src/reply.rt:65:9
 cast-t10 : tie.Need-cast-t10
 cast-t10 c = search needs
 
--- src/reply.rt:66:9
 cast-t12 : tie.Need-cast-t12
 cast-t12 c = search needs
 
--- src/reply.rt:67:9
 cast-t15 : tie.Need-cast-t15
 cast-t15 c = search needs
 
--- src/reply.rt:68:9
 cast-t18 : tie.Need-cast-t18
 cast-t18 c = search needs
 
--- src/reply.rt:69:9
 cast-t21 : tie.Need-cast-t21
 cast-t21 c = search needs
 
--- src/reply.rt:70:9
 cast-t23 : tie.Need-cast-t23
 cast-t23 c = search needs
 
--- src/reply.rt:71:9
 cast-t26 : tie.Need-cast-t26
 cast-t26 c = search needs
 
--- src/reply.rt:72:9
 cast-t28 : tie.Need-cast-t28
 cast-t28 c = search needs
 
--- src/reply.rt:73:9
 cast-t31 : tie.Need-cast-t31
 cast-t31 c = search needs
 
--- src/reply.rt:74:9
 cast-t33 : tie.Need-cast-t33
 cast-t33 c = search needs
 
--- src/reply.rt:58:1
 returns : tie.Need-returns
-returns c = ?
+unfolding numbersIn half word
+returns c = refl
 
 pub numbers-spec : {M : Type 1} → statement M
 numbers-spec =

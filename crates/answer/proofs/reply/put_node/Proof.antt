@@ -1,45 +1,49 @@
+-- `answer::reply::put_node` meets its contract. Assumes nothing.
+use native.Mathlib.Omega.{arith}
 use borrow.Author.Needs.{needs}
+use Rattle.tree.specs.Seen.{seen}
+use Rattle.answer.specs.Reply.{requestIn}
+use Rattle.answer.proofs.ReplyLaws.{put-node-reply}
 use Rattle.answer.proofs.reply.put_node.Statement.{statement}
 use Rattle.answer.proofs.reply.put_node.Tie as tie
-use Rattle.answer.proofs.reply.put_node.Reads as reads
-use Rattle.answer.proofs.reply.put_node.Lts as lts
-use Rattle.answer.proofs.reply.put_request.Reads as put-request-reads
-use Rattle.frame.proofs.buffer.put_all.Reads as put-all-reads
-use Rattle.tree.proofs.find.children.Reads as children-reads
-use Rattle.tree.proofs.find.properties.Reads as properties-reads
-use Rattle.tree.proofs.record.put_name.Reads as put-name-reads
 
--- src/reply.rt:51:9
 put-request-requires : tie.Need-put-request-requires
 put-request-requires c κs = search needs
 
--- src/reply.rt:52:19
 children-requires : tie.Need-children-requires
 children-requires c κs = search needs
 
--- src/reply.rt:52:47
 properties-requires : tie.Need-properties-requires
 properties-requires c κs = search needs
 
--- src/reply.rt:53:33
 slice-aggregate-put-all : tie.Need-slice-aggregate-put-all
 slice-aggregate-put-all c = search needs
 
--- src/reply.rt:53:9
 put-all-requires : tie.Need-put-all-requires
 put-all-requires c κs = search needs
 
--- src/reply.rt:54:5
 put-name-requires : tie.Need-put-name-requires
 put-name-requires c κs = search needs
 
--- src/reply.rt:47:1
 same-length : tie.Need-same-length
 same-length c = search needs
 
--- src/reply.rt:47:1
 returns : tie.Need-returns
-returns c = ?
+returns c =
+    let name = c .before .before in
+    let counts = name .before .before .before .before in
+    let properties = counts .before .before .before in
+    let children = properties .before in
+    let request = children .before .before .before in
+    let start = request .before .before .before .before in
+    put-node-reply (requestIn (start .args .asked)) (request .put-request .ensures)
+    (seen (start .args .tree .now)) (start .args .node)
+    (omega (arith, start .pre .0, start .pre .1 .1 .1))
+    (start .pre .1 .1 .0)
+    (children .children .ensures)
+    (properties .properties .ensures)
+    (counts .put-all .ensures)
+    (name .put-name .ensures)
 
 pub put-node-spec : {M : Type 1} → statement M
 put-node-spec =

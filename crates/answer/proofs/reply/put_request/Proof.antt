@@ -1,29 +1,36 @@
+-- `answer::reply::put_request` meets its contract. Assumes nothing.
+use Prim.Native.Nat.{_≤_}
 use borrow.Author.Needs.{needs}
+use lib.ListN.{length}
+use Rattle.request.proofs.WriteLaws.{part-size}
+use Rattle.answer.specs.Reply.{requestIn}
+use Rattle.answer.proofs.ReplyLaws.{path-room, put-allowed}
 use Rattle.answer.proofs.reply.put_request.Statement.{statement}
 use Rattle.answer.proofs.reply.put_request.Tie as tie
-use Rattle.answer.proofs.reply.put_request.Reads as reads
-use Rattle.answer.proofs.reply.put_request.Lts as lts
-use Rattle.request.proofs.write.write_data.Reads as write-data-reads
 
--- src/reply.rt:42:50
+-- The path lies within its array.
+path-fits : (c : tie.Start) → c .args .asked .len ≤ length (c .args .asked .path)
+path-fits c = path-room (c .args .asked .path) (c .good .0 .1 .1 .1 .1 .0 .1 .0 .1) (c .pre .1 .short)
+
 array-share-prefix-path : tie.Need-array-share-prefix-path
-array-share-prefix-path c = ?
+array-share-prefix-path c = path-fits (c .before .before)
 
--- src/reply.rt:42:50
 slice-aggregate-write-data : tie.Need-slice-aggregate-write-data
-slice-aggregate-write-data c = ?
+slice-aggregate-write-data c =
+    let start = c .before .before .before in
+    part-size (start .args .asked .len) (start .args .asked .path) (path-fits start)
 
--- src/reply.rt:42:9
 write-data-requires : tie.Need-write-data-requires
 write-data-requires c κs = search needs
 
--- src/reply.rt:36:1
 same-length : tie.Need-same-length
 same-length c = search needs
 
--- src/reply.rt:36:1
 returns : tie.Need-returns
-returns c = ?
+returns c =
+    let put = c .before .before in
+    let start = put .before .before .before .before .before in
+    put-allowed (requestIn (start .args .asked)) (start .pre .0) (start .pre .1 .allowed) (put .write-data .ensures)
 
 pub put-request-spec : {M : Type 1} → statement M
 put-request-spec =

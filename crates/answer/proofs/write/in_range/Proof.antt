@@ -1,44 +1,71 @@
+-- `answer::write::in_range` meets its contract. Assumes nothing.
+use mathlib.Core.Path.{refl, sym, _∙_}
 use borrow.Author.Needs.{needs}
+use borrow.Author.Tests.{not-true, not-false}
+use Rattle.tree.specs.Lent.{numbersOf}
+use Rattle.answer.proofs.WriteLaws.{range-other, range-by}
 use Rattle.answer.proofs.write.in_range.Statement.{statement}
 use Rattle.answer.proofs.write.in_range.Tie as tie
-use Rattle.answer.proofs.write.in_range.Reads as reads
-use Rattle.answer.proofs.write.in_range.Lts as lts
-use Rattle.tree.proofs.record.Fields.is_signed.Reads as is-signed-reads
-use Rattle.tree.proofs.record.at_most.Reads as at-most-reads
 
--- src/write.rt:26:9
 returns : tie.Need-returns
-returns c = ?
+returns c =
+    let start = c .before .before .before in
+    range-other (numbersOf (start .args .f)) (start .args .value) (c .before .if1 .taken)
 
--- src/write.rt:30:13
+takes-any-requires : tie.Need-takes-any-requires
+takes-any-requires c κs = search needs
+
 returns-2 : tie.Need-returns-2
-returns-2 c = ?
+returns-2 c =
+    let any = c .before in
+    let else1 = any .before in
+    let start = else1 .before .before in
+    range-by (numbersOf (start .args .f)) (start .args .value) (else1 .if1 .left) (sym (c .if2 .taken) ∙ any .takes-any .ensures) refl refl refl
 
--- src/write.rt:33:9
 is-signed-requires : tie.Need-is-signed-requires
 is-signed-requires c κs = search needs
 
--- src/write.rt:34:9
 at-most-requires : tie.Need-at-most-requires
 at-most-requires c κs = search needs
 
--- src/write.rt:35:9
 returns-3 : tie.Need-returns-3
-returns-3 c = ?
+returns-3 c =
+    let low = c .before in
+    let signed = low .before in
+    let else2 = signed .before in
+    let any = else2 .before in
+    let else1 = any .before in
+    let start = else1 .before .before in
+    range-by (numbersOf (start .args .f)) (start .args .value) (else1 .if1 .left)
+    (sym (else2 .if2 .left) ∙ any .takes-any .ensures)
+    (signed .is-signed .ensures)
+    (sym (not-true (low .at-most .result) (c .if3 .taken)) ∙ low .at-most .ensures)
+    refl
 
--- src/write.rt:37:5
 at-most-requires-2 : tie.Need-at-most-requires-2
 at-most-requires-2 c κs = search needs
 
--- src/write.rt:22:1
 returns-4 : tie.Need-returns-4
-returns-4 c = ?
+returns-4 c =
+    let else3 = c .before in
+    let low = else3 .before in
+    let signed = low .before in
+    let else2 = signed .before in
+    let any = else2 .before in
+    let else1 = any .before in
+    let start = else1 .before .before in
+    range-by (numbersOf (start .args .f)) (start .args .value) (else1 .if1 .left)
+    (sym (else2 .if2 .left) ∙ any .takes-any .ensures)
+    (signed .is-signed .ensures)
+    (sym (not-false (low .at-most .result) (else3 .if3 .left)) ∙ low .at-most .ensures)
+    (c .at-most2 .ensures)
 
 pub in-range-spec : {M : Type 1} → statement M
 in-range-spec =
     tie.close
     (tie.spec
     returns
+    takes-any-requires
     returns-2
     is-signed-requires
     at-most-requires

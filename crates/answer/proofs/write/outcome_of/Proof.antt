@@ -1,39 +1,70 @@
+-- `answer::write::outcome_of` meets its contract. Assumes nothing.
+use mathlib.Core.Path.{_≡_, refl, sym, _∙_}
+use mathlib.Core.Bool.{true}
 use borrow.Author.Needs.{needs}
+use borrow.Author.Tests.{not-true, not-false}
+use Rattle.protocol.specs.Tree.{canRead, canWrite}
+use Rattle.tree.specs.Lent.{numbersOf}
+use Rattle.answer.proofs.WriteLaws.{outcome-by}
 use Rattle.answer.proofs.write.outcome_of.Statement.{statement}
 use Rattle.answer.proofs.write.outcome_of.Tie as tie
-use Rattle.answer.proofs.write.outcome_of.Reads as reads
-use Rattle.answer.proofs.write.outcome_of.Lts as lts
-use Rattle.answer.proofs.write.in_range.Reads as in-range-reads
-use Rattle.tree.proofs.record.Fields.can_read.Reads as can-read-reads
-use Rattle.tree.proofs.record.Fields.can_write.Reads as can-write-reads
 
--- src/write.rt:44:9
+-- Behind the tests: the property can be writable, and it can be read.
+writable : (c : tie.Else1) → true ≡ canWrite (numbersOf (c .before .before .args .f))
+writable c = sym (not-false (c .before .can-write .result) (c .if1 .left)) ∙ c .before .can-write .ensures
+
+readable : (c : tie.Else2) → true ≡ canRead (numbersOf (c .before .before .before .before .args .f))
+readable c = sym (not-false (c .before .can-read .result) (c .if2 .left)) ∙ c .before .can-read .ensures
+
 can-write-requires : tie.Need-can-write-requires
 can-write-requires c κs = search needs
 
--- src/write.rt:45:9
 returns : tie.Need-returns
-returns c = ?
+returns c =
+    let writes = c .before in
+    let start = writes .before in
+    outcome-by (numbersOf (start .args .f)) (start .args .value)
+    (sym (not-true (writes .can-write .result) (c .if1 .taken)) ∙ writes .can-write .ensures)
+    refl
+    refl
 
--- src/write.rt:47:9
 can-read-requires : tie.Need-can-read-requires
 can-read-requires c κs = search needs
 
--- src/write.rt:48:9
 returns-2 : tie.Need-returns-2
-returns-2 c = ?
+returns-2 c =
+    let reads = c .before in
+    let else1 = reads .before in
+    let start = else1 .before .before in
+    outcome-by (numbersOf (start .args .f)) (start .args .value)
+    (writable else1)
+    (sym (not-true (reads .can-read .result) (c .if2 .taken)) ∙ reads .can-read .ensures)
+    refl
 
--- src/write.rt:50:8
 in-range-requires : tie.Need-in-range-requires
 in-range-requires c κs = search needs
 
--- src/write.rt:51:9
 returns-3 : tie.Need-returns-3
-returns-3 c = ?
+returns-3 c =
+    let range = c .before in
+    let else2 = range .before in
+    let else1 = else2 .before .before in
+    let start = else1 .before .before in
+    outcome-by (numbersOf (start .args .f)) (start .args .value)
+    (writable else1)
+    (readable else2)
+    (sym (c .if3 .taken) ∙ range .in-range .ensures)
 
--- src/write.rt:41:1
 returns-4 : tie.Need-returns-4
-returns-4 c = ?
+returns-4 c =
+    let range = c .before in
+    let else2 = range .before in
+    let else1 = else2 .before .before in
+    let start = else1 .before .before in
+    outcome-by (numbersOf (start .args .f)) (start .args .value)
+    (writable else1)
+    (readable else2)
+    (sym (c .if3 .left) ∙ range .in-range .ensures)
 
 pub outcome-of-spec : {M : Type 1} → statement M
 outcome-of-spec =

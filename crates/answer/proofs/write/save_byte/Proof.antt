@@ -1,40 +1,38 @@
+-- `answer::write::save_byte` meets its contract. Assumes nothing.
+use mathlib.Core.Path.{sym, ap}
 use borrow.Author.Needs.{needs}
+use Rattle.protocol.specs.Answer.{saveByte}
+use Rattle.answer.specs.Reply.{meaning}
 use Rattle.answer.proofs.write.save_byte.Statement.{statement}
 use Rattle.answer.proofs.write.save_byte.Tie as tie
-use Rattle.answer.proofs.write.save_byte.Reads as reads
-use Rattle.answer.proofs.write.save_byte.Lts as lts
 
--- src/write.rt:60:27
 enum-told : tie.Need-enum-told
 enum-told c = search needs
 
--- src/write.rt:61:27
 enum-told-2 : tie.Need-enum-told-2
 enum-told-2 c = search needs
 
--- src/write.rt:62:30
 enum-told-3 : tie.Need-enum-told-3
 enum-told-3 c = search needs
 
--- src/write.rt:63:32
 enum-told-4 : tie.Need-enum-told-4
 enum-told-4 c = search needs
 
--- src/write.rt:56:1
 returns : tie.Need-returns
-returns c = ?
+unfolding saveByte
+returns c = sym (ap (λ o. saveByte (meaning o)) (c .enum-told .given .1))
 
--- src/write.rt:56:1
 returns-2 : tie.Need-returns-2
-returns-2 c = ?
+unfolding saveByte
+returns-2 c = sym (ap (λ o. saveByte (meaning o)) (c .enum-told2 .given .1))
 
--- src/write.rt:56:1
 returns-3 : tie.Need-returns-3
-returns-3 c = ?
+unfolding saveByte
+returns-3 c = sym (ap (λ o. saveByte (meaning o)) (c .enum-told3 .given .1))
 
--- src/write.rt:56:1
 returns-4 : tie.Need-returns-4
-returns-4 c = ?
+unfolding saveByte
+returns-4 c = sym (ap (λ o. saveByte (meaning o)) (c .enum-told4 .given .1))
 
 pub save-byte-spec : {M : Type 1} → statement M
 save-byte-spec =
