@@ -1,26 +1,39 @@
 -- Demands 1 and 2 over the serving calls, by any road: theorems about every call that meets its promise.
 -- Assumes nothing.
-use Prim.Native.Nat.{ℕ, _<_, _≤_}
+use Prim.Native.Nat.{ℕ, zero, suc, _<_, _≤_}
 use native.Mathlib.Omega.{arith}
 use mathlib.Core.Path.{_≡_, refl, sym, ap, subst, _∙_}
 use mathlib.Core.Bool.{Bool, true, false, cond, _&&_}
 use mathlib.Core.List.{List, [], _∷_}
 use mathlib.Core.Option.{Option, none, some}
-use borrow.Author.Tests.{eqb-true, eqb-false}
-use lib.ListN.{length}
+use mathlib.Core.Logic.{_⊎_, inl, inr}
+use borrow.Author.Tests.{eqb-true, eqb-false, ltb-true, lt-ltb, le-ltb, eq-eqb}
+use lib.ListN.{length, set}
 use lib.Dec.{eqb, ltb}
-use Rattle.protocol.specs.Numbers.{done, unsound, noRoom, disabled, badParameter, noReading, notSaved, NAK, DISABLED, opDetect, opNode, opRecord, opRead, saveFailed}
-use Rattle.protocol.specs.Bytes.{Bytes}
+use Rattle.protocol.specs.Numbers.{done, unsound, noRoom, disabled, badParameter, noReading, notSaved, NAK, DISABLED, opDetect, opNode, opRecord, opRead, saveFailed, wordEnd}
+use Rattle.protocol.specs.Bytes.{Bytes, every}
 use Rattle.protocol.specs.Frame.{Received}
 use Rattle.protocol.specs.Buffer.{over}
-use Rattle.protocol.specs.Request.{Request, readRequest}
+use Rattle.protocol.specs.Request.{Request, pathFits, indexFits, fits, readRequest}
 use Rattle.protocol.specs.Tree.{Tree, Cell, isLive, propertyOf, nodeAt, propertyIn, cellIn, cellsSound, readable}
-use Rattle.protocol.specs.Answer.{Answer, Outcome, saved, taken, readOnly, outOfRange, outcome, saveByte, writeNumber, writeReply, refusalCode, refuse, onRead, onWrite, onProperty, ifProperty, ifNode, perform, ifAsked, answer}
-use Rattle.protocol.proofs.TestLaws.{if-both, if-case}
+use Rattle.protocol.specs.Answer.{Answer, plain, stored, Outcome, saved, taken, readOnly, outOfRange, outcome, saveByte, writeNumber, writeReply, refusalCode, refuse, onRead, onWrite, onProperty, ifProperty, ifNode, perform, ifAsked, answer}
+use Rattle.protocol.proofs.TestLaws.{and-left, and-right, and-both, if-both, if-case}
 use Rattle.protocol.proofs.BufferLaws.{over-nil}
+use Rattle.protocol.proofs.AnswerLaws.{readRequest-fits, Finds, open-probe, Saves, Changes, none-changed, one-written, changes, write-accepted, write-holds, saved-done, others-stay, refusal-keeps}
+use Rattle.protocol.proofs.RuleLaws.{host-off}
+use Rattle.tree.specs.Seen.{seen, isTree}
+use Rattle.tree.specs.Cells.{cellsForm, cellsIn, hasCells}
+use Rattle.tree.specs.Lent.{isLent}
+use Rattle.tree.proofs.CellLaws.{inWidth, cells-in-form, cells-fit, lent-form}
 use Rattle.answer.specs.Serve.{turnedAway, inForm, Call, serving, Serves}
-use Rattle.answer.proofs.ReadLaws.{readRequest-told}
-use Rattle.answer.proofs.ServeLaws.{answerTo}
+use Rattle.answer.proofs.ReadLaws.{readRequest-told, Early}
+use Rattle.answer.proofs.ServeLaws.{answerTo, Open, serve-by}
+
+-- The cells that lie beside a lent tree are sound for it.
+cells-sound-in : (tree cells : List ℕ) → Bytes cells → isLent tree cells ≡ true → cellsSound (seen tree) (cellsIn cells) ≡ true
+unfolding cellsSound isLent
+cells-sound-in tree cells all l =
+    and-both (and-right (hasCells cells) _ (and-right (isTree tree) _ l)) (cells-fit cells all)
 
 -- How a request ends: done, refused with a code, or a write that is not saved.
 pub data Ends (r : Request) (a : Answer) : Type 0 where
@@ -71,3 +84,162 @@ ends t cs true bs =
     (λ e.
       let row = readRequest-told bs .late (eqb-false (readRequest bs .number) done e) in
       ends-refused (readRequest bs .request) cs (readRequest bs .number) (omega (arith, row .0)) (omega (arith, row .1)))
+
+-- A serving call is turned away with one of rows 1 to 8, or gives the answer.
+data Way (k : Call) : Type 0 where
+  away : (m : ℕ) → 0 < m → m < disabled → serving k ≡ turnedAway (k .cells) m → Way k
+  answered : isLent (k .tree) (k .cells) ≡ true → k .string .number ≡ done → serving k ≡ inForm (k .form) (answerTo k) → Way k
+
+way : (k : Call) → Early (k .string) → Way k
+way k early = go (isLent (k .tree) (k .cells)) (ltb (k .room) (k .least)) (eqb (k .string .number) done) refl refl refl
+  where
+    go : (t u v : Bool) → isLent (k .tree) (k .cells) ≡ t → ltb (k .room) (k .least) ≡ u → eqb (k .string .number) done ≡ v → Way k
+    go true true v p q r = away noRoom (omega arith) (omega arith) (serve-by k true true v p q r)
+    go true false true p q r = answered p (eqb-true (k .string .number) done r) (serve-by k true false true p q r)
+    go true false false p q r =
+        away (k .string .number) (omega (arith, eqb-false (k .string .number) done r)) (early .early) (serve-by k true false false p q r)
+    go false u v p q r = away unsound (omega arith) (omega arith) (serve-by k false u v p q r)
+
+-- Every cell after an answer has a word of 32 bits.
+every-set : {A : Type 0} (f : A → Bool) (xs : List A) (i : ℕ) (y : A) → every f xs ≡ true → f y ≡ true → every f (set xs i y) ≡ true
+unfolding every
+every-set f [] i y h e = refl
+every-set f (x ∷ xs) zero y h e = and-both e (and-right (f x) (every f xs) h)
+every-set f (x ∷ xs) (suc i) y h e = and-both (and-left (f x) (every f xs) h) (every-set f xs i y (and-right (f x) (every f xs) h) e)
+
+value-fits : (r : Request) → fits r ≡ true → opRead < r .op → r .value < wordEnd
+unfolding fits
+value-fits r h w =
+    let both = and-right (pathFits (r .op) (r .path)) _ h in
+    let value = and-right (indexFits (r .op) (r .index)) _ both in
+    ltb-true (r .value) wordEnd (sym (ap (λ t. cond t (ltb (r .value) wordEnd) (eqb (r .value) 0)) (lt-ltb opRead (r .op) w)) ∙ value)
+
+sent-fits : (t : Tree) (bs : List ℕ) (place value : ℕ) → Saves t bs place value → value < wordEnd
+sent-fits t bs place value s =
+    let fit : fits (s .request) ≡ true =
+    ap (λ a. fits (a .request)) (sym (s .asks)) ∙ readRequest-fits bs .fit (ap (λ a. a .number) (s .asks)) in
+    omega (arith, s .sent, value-fits (s .request) fit (s .writes))
+
+in-width : (t : Tree) (cs : List Cell) (host : Bool) (bs : List ℕ) → inWidth cs ≡ true → inWidth (answer t cs host bs .cells) ≡ true
+in-width t cs host bs h = go (changes t cs host bs)
+  where
+    go : Changes t cs bs (answer t cs host bs .cells) → inWidth (answer t cs host bs .cells) ≡ true
+    go (none-changed e) = ap inWidth e ∙ h
+    go (one-written place value s e) =
+        ap inWidth e
+        ∙ every-set (λ c. ltb (c .word) wordEnd) cs place (stored (cellIn cs place) value) h (lt-ltb value wordEnd (sent-fits t bs place value s))
+
+-- How the refusals of rows 9 to 13 answer: with the code of the row, or with the reply of a write that is not saved.
+pub data Refusal (k : Call) (n : ℕ) (out out′ : List ℕ) : Type 0 where
+  code : n ≤ noReading → out′ ≡ over (k .form (refusalCode n ∷ [])) out → Refusal k n out out′
+  not-saved : (o : Outcome) → n ≡ notSaved → saveByte o ≡ saveFailed
+      → out′ ≡ over (k .form (writeReply o (readRequest (k .string .payload) .request))) out → Refusal k n out out′
+
+module _ (k : Call) (early : Early (k .string)) {out cells′ out′ : List ℕ} {n size action : ℕ}
+    (h : Serves (serving k) out n size action cells′ out′)
+    where
+  -- Demand 1: refusals 1 to 8 change no reading, setting or output byte.
+  pub early-refusal : 0 < n → n < disabled → (cells′ ≡ k .cells) × (out′ ≡ out)
+  early-refusal p q = go (way k early)
+    where
+      bad : Ends (readRequest (k .string .payload) .request) (answerTo k) → n ≡ answerTo k .number → ⊥
+      bad (accepted e) m = omega (arith, p, m, e)
+      bad (coded a b e) m = omega (arith, q, m, a)
+      bad (unsaved o e f g) m = omega (arith, q, m, e)
+      go : Way k → (cells′ ≡ k .cells) × (out′ ≡ out)
+      go (away m a b e) =
+          (h .cells ∙ ap (λ s. s .cells) e, h .bytes ∙ ap (λ s. over (s .written) out) e ∙ over-nil out)
+      go (answered l d e) =
+          absurd (bad (ends (seen (k .tree)) (cellsIn (k .cells)) (k .host) (k .string .payload)) (h .number ∙ ap (λ s. s .number) e))
+
+  -- Demand 1: refusals 9 to 13 change no reading or setting, and write exactly the reply of their row.
+  pub late-refusal : disabled ≤ n → (cells′ ≡ k .cells) × Refusal k n out out′
+  late-refusal p = go (way k early)
+    where
+      a : Answer
+      a = answerTo k
+      replied : n ≡ a .number → out′ ≡ over (k .form (a .reply)) out → Ends (readRequest (k .string .payload) .request) a → Refusal k n out out′
+      replied m w (accepted e) = absurd (omega (arith, p, m, e))
+      replied m w (coded b c e) =
+          code (omega (arith, m, c)) (w ∙ ap (λ d. over (k .form d) out) (e ∙ ap (λ i. refusalCode i ∷ []) (sym m)))
+      replied m w (unsaved o e f g) = not-saved o (m ∙ e) f (w ∙ ap (λ d. over (k .form d) out) g)
+      go : Way k → (cells′ ≡ k .cells) × Refusal k n out out′
+      go (away m b c e) = absurd (omega (arith, p, c, h .number ∙ ap (λ s. s .number) e))
+      go (answered l d e) =
+          let m : n ≡ a .number = h .number ∙ ap (λ s. s .number) e in
+          let kept : a .cells ≡ cellsIn (k .cells) =
+          refusal-keeps (seen (k .tree)) (cellsIn (k .cells)) (k .host) (k .string .payload) (λ z. omega (arith, p, m, z)) in
+          (
+            h .cells ∙ ap (λ s. s .cells) e ∙ ap cellsForm kept ∙ sym (lent-form (k .tree) (k .cells) l),
+            replied m (h .bytes ∙ ap (λ s. over (s .written) out) e) (ends (seen (k .tree)) (cellsIn (k .cells)) (k .host) (k .string .payload)),
+          )
+
+  -- The cells afterwards, as they are read.
+  cells-after : Bytes (k .cells) → isLent (k .tree) (k .cells) ≡ true → serving k ≡ inForm (k .form) (answerTo k)
+      → cellsIn cells′ ≡ answerTo k .cells
+  cells-after all l e =
+      ap cellsIn (h .cells ∙ ap (λ s. s .cells) e)
+      ∙ cells-in-form (answerTo k .cells)
+      (in-width (seen (k .tree)) (cellsIn (k .cells)) (k .host) (k .string .payload) (cells-fit (k .cells) all))
+
+  -- Demand 2: no request alters anything but the setting that an accepted write names.
+  pub others-kept : Bytes (k .cells) → (place : ℕ) → ((value : ℕ) → Saves (seen (k .tree)) (k .string .payload) place value → ⊥)
+      → cellIn (cellsIn cells′) place ≡ cellIn (cellsIn (k .cells)) place
+  others-kept all place u = go (way k early)
+    where
+      go : Way k → cellIn (cellsIn cells′) place ≡ cellIn (cellsIn (k .cells)) place
+      go (away m b c e) = ap (λ l. cellIn (cellsIn l) place) (h .cells ∙ ap (λ s. s .cells) e)
+      go (answered l d e) =
+          ap (λ cs. cellIn cs place) (cells-after all l e)
+          ∙ others-stay (seen (k .tree)) (cellsIn (k .cells)) (k .host) (k .string .payload) place u
+
+  -- Demand 2: an accepted write is done, and the setting holds the number sent.
+  pub write-kept : Bytes (k .cells) → Open k → k .string .number ≡ done → k .host ≡ true → (place value : ℕ)
+      → Saves (seen (k .tree)) (k .string .payload) place value → (n ≡ done) × (cellIn (cellsIn cells′) place .word ≡ value)
+  write-kept all o good on place value s =
+      let t : Tree = seen (k .tree) in
+      let cs : List Cell = cellsIn (k .cells) in
+      let bs : List ℕ = k .string .payload in
+      let e : serving k ≡ inForm (k .form) (answerTo k) =
+      serve-by k true false true (o .lent) (le-ltb (k .room) (k .least) (o .roomy)) (eq-eqb (k .string .number) done good) in
+      let is : answerTo k ≡ answer t cs true bs = ap (λ b. answer t cs b bs) on in
+      (
+        h .number ∙ ap (λ w. w .number) e ∙ ap (λ a. a .number) (is ∙ write-accepted t cs bs place value s) ∙ saved-done cs place (s .request),
+        ap (λ l. cellIn l place .word) (cells-after all (o .lent) e ∙ ap (λ a. a .cells) is)
+        ∙ write-holds t cs bs place value (cells-sound-in (k .tree) (k .cells) all (o .lent)) s,
+      )
+
+  -- Demand 2: reading a live probe that is not ready never yields a number: nothing is written, or a code alone.
+  pub open-probe-silent : (r : Request) (place : ℕ) → readRequest (k .string .payload) ≡ record { number = done; request = r } → r .op ≡ opRead
+      → Finds (seen (k .tree)) r place → isLive (propertyIn (seen (k .tree)) place) ≡ true → cellIn (cellsIn (k .cells)) place .ready ≡ false
+      → (n ≡ done → ⊥) × ((out′ ≡ out) ⊎ ((out′ ≡ over (k .form (DISABLED ∷ [])) out) ⊎ (out′ ≡ over (k .form (NAK ∷ [])) out)))
+  open-probe-silent r place asks op f live unready = go (way k early)
+    where
+      t : Tree
+      t = seen (k .tree)
+      cs : List Cell
+      cs = cellsIn (k .cells)
+      bs : List ℕ
+      bs = k .string .payload
+      host-case : (b : Bool) → (answer t cs b bs ≡ plain cs disabled (DISABLED ∷ [])) ⊎ (answer t cs b bs ≡ plain cs noReading (NAK ∷ []))
+      host-case true = inr (open-probe t cs bs r place asks op f live unready)
+      host-case false = inl (host-off t cs bs)
+      told : serving k ≡ inForm (k .form) (answerTo k) → (answerTo k ≡ plain cs disabled (DISABLED ∷ [])) ⊎ (answerTo k ≡ plain cs noReading (NAK ∷ []))
+          → (n ≡ done → ⊥) × ((out′ ≡ out) ⊎ ((out′ ≡ over (k .form (DISABLED ∷ [])) out) ⊎ (out′ ≡ over (k .form (NAK ∷ [])) out)))
+      told e (left a) =
+          (
+            λ z. omega (arith, z, h .number ∙ ap (λ s. s .number) e ∙ ap (λ x. x .number) a),
+            inr (inl (h .bytes ∙ ap (λ s. over (s .written) out) e ∙ ap (λ x. over (k .form (x .reply)) out) a)),
+          )
+      told e (right a) =
+          (
+            λ z. omega (arith, z, h .number ∙ ap (λ s. s .number) e ∙ ap (λ x. x .number) a),
+            inr (inr (h .bytes ∙ ap (λ s. over (s .written) out) e ∙ ap (λ x. over (k .form (x .reply)) out) a)),
+          )
+      go : Way k → (n ≡ done → ⊥) × ((out′ ≡ out) ⊎ ((out′ ≡ over (k .form (DISABLED ∷ [])) out) ⊎ (out′ ≡ over (k .form (NAK ∷ [])) out)))
+      go (away m b c e) =
+          (
+            λ z. omega (arith, z, b, h .number ∙ ap (λ s. s .number) e),
+            inl (h .bytes ∙ ap (λ s. over (s .written) out) e ∙ over-nil out),
+          )
+      go (answered l d e) = told e (host-case (k .host))

@@ -37,7 +37,7 @@ answered-data t cs true bs = refl
 answered-data t cs false bs = refl
 
 -- A lent tree is sound, so that every reply can be framed.
-lent-sound : (tree cells : List ℕ) → isLent tree cells ≡ true → sound (seen tree) ≡ true
+pub lent-sound : (tree cells : List ℕ) → isLent tree cells ≡ true → sound (seen tree) ≡ true
 unfolding isLent isTree
 lent-sound tree cells h = and-right (same tree (formOf (seen tree))) _ (and-left (isTree tree) _ h)
 
@@ -87,7 +87,7 @@ answerTo k = answer (seen (k .tree)) (cellsIn (k .cells)) (k .host) (k .string .
 
 -- Its rows.
 module _ (k : Call) where
-  serve-by : (t u v : Bool) → isLent (k .tree) (k .cells) ≡ t → ltb (k .room) (k .least) ≡ u → eqb (k .string .number) done ≡ v
+  pub serve-by : (t u v : Bool) → isLent (k .tree) (k .cells) ≡ t → ltb (k .room) (k .least) ≡ u → eqb (k .string .number) done ≡ v
       → serving k
       ≡ cond t
       (cond u (turnedAway (k .cells) noRoom) (cond v (inForm (k .form) (answerTo k)) (turnedAway (k .cells) (k .string .number))))

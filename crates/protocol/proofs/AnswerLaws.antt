@@ -389,7 +389,7 @@ write-holds t cs bs place value h s =
     (getD-set-same cs place (stored (cellIn cs place) (r .value)) _ (omega (arith, size, finds-below t r place (s .finds))))
     ∙ s .sent
 
-saved-done : (cs : List Cell) (place : ℕ) (r : Request) → onWrite cs place r saved .number ≡ done
+pub saved-done : (cs : List Cell) (place : ℕ) (r : Request) → onWrite cs place r saved .number ≡ done
 unfolding onWrite writeNumber
 saved-done cs place r = refl
 
