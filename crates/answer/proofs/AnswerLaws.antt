@@ -9,7 +9,6 @@ use mathlib.Core.Option.{none, some}
 use borrow.Author.Tests.{eq-eqb, ne-eqb}
 use lib.ListN.{length, set}
 use Rattle.protocol.specs.Numbers.{done, disabled, badParameter, noReading, ACK, opDetect, opNode, opRecord, opRead}
-use Rattle.protocol.specs.Bytes.{atMost}
 use Rattle.protocol.specs.Buffer.{Put}
 use Rattle.protocol.specs.Request.{Request, Asked, Allowed}
 use Rattle.protocol.specs.Tree.{Property, Tree, Cell, canRead, isLive, propertyOf, nodeAt, propertyIn, cellIn, sound, readable}
@@ -81,15 +80,9 @@ pub writes : (cs : List Cell) (place : ℕ) (r : Request) {o told did : Outcome}
     → action ≡ actionNumber (actionOf did place) → cells ≡ cellsForm (cellsAfter did cs place (r .value))
     → Answers (onWrite cs place r o) out n size action cells out′
 unfolding onWrite
-writes cs place r {o} {told} {did} {out = out} {out′ = out′} e f p number len action cells =
+writes cs place r {o} {did = did} e f p number len action cells =
     let is : o ≡ did = sym e ∙ f in
-    rw is
-    (record {
-      number = number;
-      reply = rw (len, ← f) p;
-      acts = action;
-      cells = cells;
-    })
+    rw is (record { number = number; reply = rw (len, ← f) p; acts = action; cells = cells })
 
 -- The cells once a value is saved.
 pub saved-cells : (cs : List Cell) (place v : ℕ) {cells cells′ : List ℕ} → cells ≡ cellsForm cs → cells′ ≡ withWord place v cells

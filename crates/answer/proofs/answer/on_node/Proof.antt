@@ -34,11 +34,16 @@ found c =
 put-node-requires : tie.Need-put-node-requires
 put-node-requires c κs =
     let start = start-of (c .before .before) in
-    let asks = start .pre .1 .1 .0 in
-    (start .pre .0,
-    (asks,
-    (c .before .if1 .taken,
-    node-short (start .args .tree .now) (start .args .cells .now) (start .pre .1 .0) (requestIn (start .args .asked)) (asks .allowed) (start .args .node))))
+    let asks = start .pre .1 .1 .0 in (
+      start .pre .0,
+      (
+        asks,
+        (
+          c .before .if1 .taken,
+          node-short (start .args .tree .now) (start .args .cells .now) (start .pre .1 .0) (requestIn (start .args .asked)) (asks .allowed) (start .args .node),
+        ),
+      ),
+    )
 
 same-length : tie.Need-same-length
 same-length c = search needs
@@ -79,12 +84,19 @@ on-property-requires : tie.Need-on-property-requires
 on-property-requires c κs =
     let known = c .before .before .before in
     let test = known .before .before .before in
-    let start = start-of (test .before) in
-    (start .pre .0,
-    (start .pre .1 .0,
-    (start .pre .1 .1 .0,
-    (omega (arith, test .if1 .left, start .pre .1 .1 .1),
-    property-below (seen (start .args .tree .now)) (start .args .node) (start .args .asked .index .0) (known .place .given .0 .0) (found known)))))
+    let start = start-of (test .before) in (
+      start .pre .0,
+      (
+        start .pre .1 .0,
+        (
+          start .pre .1 .1 .0,
+          (
+            omega (arith, test .if1 .left, start .pre .1 .1 .1),
+            property-below (seen (start .args .tree .now)) (start .args .node) (start .args .asked .index .0) (known .place .given .0 .0) (found known),
+          ),
+        ),
+      ),
+    )
 
 same-length-3 : tie.Need-same-length-3
 same-length-3 c = search needs

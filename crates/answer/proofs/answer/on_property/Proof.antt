@@ -22,11 +22,16 @@ above c =
 put-record-requires : tie.Need-put-record-requires
 put-record-requires c κs =
     let start = start-of (c .before .before) in
-    let asks = start .pre .1 .1 .0 in
-    (start .pre .0,
-    (asks,
-    (c .before .if1 .taken,
-    record-short (start .args .tree .now) (start .args .cells .now) (start .pre .1 .0) (requestIn (start .args .asked)) (asks .allowed) (start .args .place))))
+    let asks = start .pre .1 .1 .0 in (
+      start .pre .0,
+      (
+        asks,
+        (
+          c .before .if1 .taken,
+          record-short (start .args .tree .now) (start .args .cells .now) (start .pre .1 .0) (requestIn (start .args .asked)) (asks .allowed) (start .args .place),
+        ),
+      ),
+    )
 
 same-length : tie.Need-same-length
 same-length c = search needs
@@ -56,12 +61,19 @@ returns-2 c =
 on-write-requires : tie.Need-on-write-requires
 on-write-requires c κs =
     let test = c .before .before in
-    let start = start-of (test .before .before .before) in
-    (start .pre .0,
-    (start .pre .1 .0,
-    (start .pre .1 .1 .0,
-    (above test,
-    place-fits (start .args .tree .now) (start .args .cells .now) (start .pre .1 .0) (start .args .place) (start .pre .1 .1 .1 .1)))))
+    let start = start-of (test .before .before .before) in (
+      start .pre .0,
+      (
+        start .pre .1 .0,
+        (
+          start .pre .1 .1 .0,
+          (
+            above test,
+            place-fits (start .args .tree .now) (start .args .cells .now) (start .pre .1 .0) (start .args .place) (start .pre .1 .1 .1 .1),
+          ),
+        ),
+      ),
+    )
 
 same-length-4 : tie.Need-same-length-4
 same-length-4 c = search needs

@@ -1,9 +1,12 @@
 -- `answer::answer::perform` meets its contract. Assumes nothing.
+use Prim.Native.Nat.{_≤_}
 use native.Mathlib.Omega.{arith}
 use mathlib.Core.Path.{_≡_, sym, _∙_}
 use mathlib.Core.Option.{some}
 use borrow.Author.Needs.{needs}
+use lib.ListN.{length, length-map}
 use Rattle.protocol.specs.Tree.{nodeAt}
+use Rattle.request.proofs.WriteLaws.{part-size}
 use Rattle.tree.specs.Seen.{seen}
 use Rattle.tree.specs.Cells.{cellsForm, cellsIn}
 use Rattle.tree.proofs.CellLaws.{lent-form}
@@ -19,6 +22,11 @@ start-of c = c .before .before .before .before
 
 lent : (c : tie.After-struct-known) → start-of c .args .cells .now ≡ cellsForm (cellsIn (start-of c .args .cells .now))
 lent c = lent-form (start-of c .args .tree .now) (start-of c .args .cells .now) (start-of c .pre .1 .0)
+
+-- The path lies within its array.
+path-fits : (c : tie.Start) → c .args .asked .len ≤ length (c .args .asked .path)
+path-fits c =
+    omega (arith, c .good .1 .1 .0 .1 .1 .1 .1 .0 .1 .0 .1, length-map (c .args .asked .path) (λ b. b), c .pre .1 .1 .short)
 
 -- The node that was found.
 found : (c : tie.After-node2)
@@ -43,10 +51,12 @@ returns c =
     answers-as (is-detect _ _ _ (test .if1 .taken)) (replied (lent (test .before)) (put .put-code .ensures))
 
 array-share-prefix-path : tie.Need-array-share-prefix-path
-array-share-prefix-path c = ?
+array-share-prefix-path c = path-fits (start-of (c .before .before))
 
 slice-aggregate-node : tie.Need-slice-aggregate-node
-slice-aggregate-node c = ?
+slice-aggregate-node c =
+    let start = start-of (c .before .before .before) in
+    part-size (start .args .asked .len) (start .args .asked .path) (path-fits start)
 
 node-requires : tie.Need-node-requires
 node-requires c κs = search needs
