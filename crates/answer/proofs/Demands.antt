@@ -226,12 +226,12 @@ module _ (k : Call) (early : Early (k .string)) {out cells′ out′ : List ℕ}
       host-case false = inl (host-off t cs bs)
       told : serving k ≡ inForm (k .form) (answerTo k) → (answerTo k ≡ plain cs disabled (DISABLED ∷ [])) ⊎ (answerTo k ≡ plain cs noReading (NAK ∷ []))
           → (n ≡ done → ⊥) × ((out′ ≡ out) ⊎ ((out′ ≡ over (k .form (DISABLED ∷ [])) out) ⊎ (out′ ≡ over (k .form (NAK ∷ [])) out)))
-      told e (left a) =
+      told e (inl a) =
           (
             λ z. omega (arith, z, h .number ∙ ap (λ s. s .number) e ∙ ap (λ x. x .number) a),
             inr (inl (h .bytes ∙ ap (λ s. over (s .written) out) e ∙ ap (λ x. over (k .form (x .reply)) out) a)),
           )
-      told e (right a) =
+      told e (inr a) =
           (
             λ z. omega (arith, z, h .number ∙ ap (λ s. s .number) e ∙ ap (λ x. x .number) a),
             inr (inr (h .bytes ∙ ap (λ s. over (s .written) out) e ∙ ap (λ x. over (k .form (x .reply)) out) a)),

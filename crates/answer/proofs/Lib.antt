@@ -4,3 +4,4 @@ pub mod ServeLaws
 pub mod Demands
 pub mod ReplyLaws
 pub mod WriteLaws
+pub mod AnswerLaws

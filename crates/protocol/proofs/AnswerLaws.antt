@@ -237,13 +237,17 @@ unfolding numbered
 found-below xs zero place bound h e = absurd (Option·none-ne-some place e)
 found-below xs (suc n) place bound h e = h n e
 
--- The property that a request names is in the tree.
-pub finds-below : (t : Tree) (r : Request) (place : ℕ) → Finds t r place → place < length (t .properties)
+-- A property of a node is in the tree, and so is the property that a request names.
+pub property-below : (t : Tree) (node index place : ℕ) → propertyOf t node (record { 0 = index }) ≡ some place
+    → place < length (t .properties)
 unfolding propertiesOf
-finds-below t r place f =
-    found-below (propertiesOf t (f .node)) (r .index) place (length (t .properties))
-    (λ n e. omega (arith, picked (λ p. eqb (p .node) (f .node)) (t .properties) 0 n place e))
-    (f .atProperty)
+property-below t node index place h =
+    found-below (propertiesOf t node) index place (length (t .properties))
+    (λ n e. omega (arith, picked (λ p. eqb (p .node) node) (t .properties) 0 n place e))
+    h
+
+pub finds-below : (t : Tree) (r : Request) (place : ℕ) → Finds t r place → place < length (t .properties)
+finds-below t r place f = property-below t (f .node) (r .index) place (f .atProperty)
 
 -- A request performed, where it names a property.
 finds-performs : (t : Tree) (cs : List Cell) (r : Request) (place : ℕ) → Finds t r place → opNode < r .op

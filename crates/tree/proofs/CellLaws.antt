@@ -271,7 +271,7 @@ module _ (offset : ℕ) (bytes : List ℕ) (change : Cell → Cell)
           (ap cellsForm (sym (set-out cs k (change (cellIn cs k)) (omega (arith, h)))))
 
 -- A cell with another word, and with another mark.
-abbrev withNumber : ℕ → Cell → Cell
+abbrev pub withNumber : ℕ → Cell → Cell
 withNumber w c = record { word = w; ready = c .ready }
 
 abbrev marked : Bool → Cell → Cell
@@ -285,7 +285,7 @@ mark-here : (t : Bool) (c : Cell) (bs : List ℕ) → putAt 4 (markOf t ∷ []) 
 unfolding putAt cellForm word
 mark-here t c bs = refl
 
-word-stored : (cs : List Cell) (k w : ℕ) → withWord k w (cellsForm cs) ≡ cellsForm (set cs k (withNumber w (cellIn cs k)))
+pub word-stored : (cs : List Cell) (k w : ℕ) → withWord k w (cellsForm cs) ≡ cellsForm (set cs k (withNumber w (cellIn cs k)))
 unfolding withWord
 word-stored cs k w =
     ap (λ n. cond (ltb k (length (cellsForm cs) / cellSize)) (putAt n (word w) (cellsForm cs)) (cellsForm cs))

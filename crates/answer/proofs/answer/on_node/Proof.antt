@@ -1,64 +1,114 @@
+-- `answer::answer::on_node` meets its contract. Assumes nothing.
+use native.Mathlib.Omega.{arith}
+use mathlib.Core.Path.{_≡_, sym, _∙_}
+use mathlib.Core.Option.{some}
 use borrow.Author.Needs.{needs}
+use Rattle.protocol.specs.Tree.{propertyOf}
+use Rattle.protocol.proofs.AnswerLaws.{property-below}
+use Rattle.tree.specs.Seen.{seen}
+use Rattle.tree.specs.Cells.{cellsForm, cellsIn}
+use Rattle.tree.proofs.CellLaws.{lent-form}
+use Rattle.tree.proofs.FoundLaws.{found-at, found-none}
+use Rattle.answer.specs.Reply.{requestIn}
+use Rattle.answer.proofs.AnswerLaws.{node-short, refused, replied, answers-as, is-node, no-property, at-property}
 use Rattle.answer.proofs.answer.on_node.Statement.{statement}
 use Rattle.answer.proofs.answer.on_node.Tie as tie
-use Rattle.answer.proofs.answer.on_node.Reads as reads
-use Rattle.answer.proofs.answer.on_node.Lts as lts
-use Rattle.answer.proofs.answer.on_property.Reads as on-property-reads
-use Rattle.answer.proofs.answer.refuse.Reads as refuse-reads
-use Rattle.answer.proofs.reply.put_node.Reads as put-node-reads
-use Rattle.tree.proofs.find.property.Reads as property-reads
 
--- src/answer.rt:158:18
+-- Where the function begins, from where it tests the op.
+abbrev start-of : tie.After-struct-known → tie.Start
+start-of c = c .before .before .before .before
+
+lent : (c : tie.After-struct-known) → start-of c .args .cells .now ≡ cellsForm (cellsIn (start-of c .args .cells .now))
+lent c = lent-form (start-of c .args .tree .now) (start-of c .args .cells .now) (start-of c .pre .1 .0)
+
+-- The property that was found.
+found : (c : tie.After-place)
+    → let start = start-of (c .before .before .before .before) in
+    propertyOf (seen (start .args .tree .now)) (start .args .node) (start .args .asked .index) ≡ some (c .place .given .0 .0)
+found c =
+    let find = c .before .before in
+    let start = start-of (find .before .before) in
+    found-at (propertyOf (seen (start .args .tree .now)) (start .args .node) (start .args .asked .index))
+    (sym (c .place .given .1) ∙ find .property .ensures)
+
 put-node-requires : tie.Need-put-node-requires
-put-node-requires c κs = ?
+put-node-requires c κs =
+    let start = start-of (c .before .before) in
+    let asks = start .pre .1 .1 .0 in (
+      start .pre .0,
+      (
+        asks,
+        (
+          c .before .if1 .taken,
+          node-short (start .args .tree .now) (start .args .cells .now) (start .pre .1 .0) (requestIn (start .args .asked)) (asks .allowed) (start .args .node),
+        ),
+      ),
+    )
 
--- src/answer.rt:156:9
 same-length : tie.Need-same-length
 same-length c = search needs
 
--- src/answer.rt:156:9
 returns : tie.Need-returns
-returns c = ?
+returns c =
+    let put = c .before .before in
+    let test = put .before .before in
+    answers-as (is-node _ _ _ _ (test .if1 .taken)) (replied (lent (test .before)) (put .put-node .ensures))
 
--- src/answer.rt:162:28
 property-requires : tie.Need-property-requires
 property-requires c κs = search needs
 
--- src/answer.rt:162:19
 enum-known-place : tie.Need-enum-known-place
 enum-known-place c = search needs
 
--- src/answer.rt:163:38
 enum-told : tie.Need-enum-told
 enum-told c = search needs
 
--- src/answer.rt:163:9
 refuse-requires : tie.Need-refuse-requires
 refuse-requires c κs = search needs
 
--- src/answer.rt:163:9
 same-length-2 : tie.Need-same-length-2
 same-length-2 c = search needs
 
--- src/answer.rt:163:9
 returns-2 : tie.Need-returns-2
-returns-2 c = ?
+returns-2 c =
+    let told = c .before .before .before .before in
+    let find = told .before .before in
+    let start = start-of (find .before .before) in
+    answers-as
+    (no-property _ _ _ _ (find .before .if1 .left)
+    (found-none (propertyOf (seen (start .args .tree .now)) (start .args .node) (start .args .asked .index))
+    (sym (told .enum-told .given .1) ∙ find .property .ensures)))
+    (refused (lent (find .before .before)) (c .before .before .refuse .ensures))
 
--- src/answer.rt:165:5
 on-property-requires : tie.Need-on-property-requires
-on-property-requires c κs = ?
+on-property-requires c κs =
+    let known = c .before .before .before in
+    let test = known .before .before .before in
+    let start = start-of (test .before) in (
+      start .pre .0,
+      (
+        start .pre .1 .0,
+        (
+          start .pre .1 .1 .0,
+          (
+            omega (arith, test .if1 .left, start .pre .1 .1 .1),
+            property-below (seen (start .args .tree .now)) (start .args .node) (start .args .asked .index .0) (known .place .given .0 .0) (found known),
+          ),
+        ),
+      ),
+    )
 
--- src/answer.rt:151:1
 same-length-3 : tie.Need-same-length-3
 same-length-3 c = search needs
 
--- src/answer.rt:151:1
 same-length-4 : tie.Need-same-length-4
 same-length-4 c = search needs
 
--- src/answer.rt:151:1
 returns-3 : tie.Need-returns-3
-returns-3 c = ?
+returns-3 c =
+    let answered = c .before .before .before .before in
+    let known = answered .before .before .before .before in
+    answers-as (at-property _ _ _ _ (known .before .before .before .if1 .left) (found known)) (answered .on-property .ensures)
 
 pub on-node-spec : {M : Type 1} → statement M
 on-node-spec =

@@ -1,55 +1,90 @@
+-- `answer::answer::on_property` meets its contract. Assumes nothing.
+use Prim.Native.Nat.{_<_}
+use native.Mathlib.Omega.{arith}
 use borrow.Author.Needs.{needs}
+use Rattle.protocol.specs.Numbers.{opRead}
+use Rattle.tree.proofs.CellLaws.{lent-form}
+use Rattle.answer.specs.Reply.{requestIn}
+use Rattle.answer.proofs.AnswerLaws.{place-fits, record-short, replied, answers-as, is-record, is-reading, is-write}
 use Rattle.answer.proofs.answer.on_property.Statement.{statement}
 use Rattle.answer.proofs.answer.on_property.Tie as tie
-use Rattle.answer.proofs.answer.on_property.Reads as reads
-use Rattle.answer.proofs.answer.on_property.Lts as lts
-use Rattle.answer.proofs.answer.on_read.Reads as on-read-reads
-use Rattle.answer.proofs.answer.on_write.Reads as on-write-reads
-use Rattle.answer.proofs.reply.put_record.Reads as put-record-reads
 
--- src/answer.rt:140:18
+-- Where the function begins, from where it tests the op.
+abbrev start-of : tie.After-struct-known → tie.Start
+start-of c = c .before .before .before .before
+
+-- Behind both tests the op is 4 or 5.
+above : (c : tie.Else2) → opRead < start-of (c .before .before .before) .args .asked .op
+above c =
+    let start = start-of (c .before .before .before) in
+    omega (arith, c .before .before .if1 .left, c .if2 .left, start .pre .1 .1 .1 .0)
+
 put-record-requires : tie.Need-put-record-requires
-put-record-requires c κs = ?
+put-record-requires c κs =
+    let start = start-of (c .before .before) in
+    let asks = start .pre .1 .1 .0 in (
+      start .pre .0,
+      (
+        asks,
+        (
+          c .before .if1 .taken,
+          record-short (start .args .tree .now) (start .args .cells .now) (start .pre .1 .0) (requestIn (start .args .asked)) (asks .allowed) (start .args .place),
+        ),
+      ),
+    )
 
--- src/answer.rt:138:9
 same-length : tie.Need-same-length
 same-length c = search needs
 
--- src/answer.rt:138:9
 returns : tie.Need-returns
-returns c = ?
+returns c =
+    let put = c .before .before in
+    let test = put .before .before in
+    let start = start-of (test .before) in
+    answers-as (is-record _ _ _ _ (test .if1 .taken))
+    (replied (lent-form (start .args .tree .now) (start .args .cells .now) (start .pre .1 .0)) (put .put-record .ensures))
 
--- src/answer.rt:145:9
 on-read-requires : tie.Need-on-read-requires
 on-read-requires c κs = search needs
 
--- src/answer.rt:145:9
 same-length-2 : tie.Need-same-length-2
 same-length-2 c = search needs
 
--- src/answer.rt:145:9
 same-length-3 : tie.Need-same-length-3
 same-length-3 c = search needs
 
--- src/answer.rt:145:9
 returns-2 : tie.Need-returns-2
-returns-2 c = ?
+returns-2 c =
+    let read = c .before .before in
+    answers-as (is-reading _ _ _ _ (read .before .before .before .if2 .taken)) (read .on-read .ensures)
 
--- src/answer.rt:147:5
 on-write-requires : tie.Need-on-write-requires
-on-write-requires c κs = ?
+on-write-requires c κs =
+    let test = c .before .before in
+    let start = start-of (test .before .before .before) in (
+      start .pre .0,
+      (
+        start .pre .1 .0,
+        (
+          start .pre .1 .1 .0,
+          (
+            above test,
+            place-fits (start .args .tree .now) (start .args .cells .now) (start .pre .1 .0) (start .args .place) (start .pre .1 .1 .1 .1),
+          ),
+        ),
+      ),
+    )
 
--- src/answer.rt:133:1
 same-length-4 : tie.Need-same-length-4
 same-length-4 c = search needs
 
--- src/answer.rt:133:1
 same-length-5 : tie.Need-same-length-5
 same-length-5 c = search needs
 
--- src/answer.rt:133:1
 returns-3 : tie.Need-returns-3
-returns-3 c = ?
+returns-3 c =
+    let wrote = c .before .before .before .before in
+    answers-as (is-write _ _ _ _ (above (wrote .before .before .before))) (wrote .on-write .ensures)
 
 pub on-property-spec : {M : Type 1} → statement M
 on-property-spec =

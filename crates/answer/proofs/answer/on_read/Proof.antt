@@ -1,44 +1,48 @@
+-- `answer::answer::on_read` meets its contract. Assumes nothing.
+use mathlib.Core.Path.{sym, _∙_}
 use borrow.Author.Needs.{needs}
+use borrow.Author.Tests.{not-true, not-false}
+use Rattle.protocol.specs.Tree.{cellIn}
+use Rattle.tree.specs.Cells.{cellsIn}
+use Rattle.tree.proofs.CellLaws.{lent-form}
+use Rattle.answer.proofs.AnswerLaws.{answers-as, refused, replied, read-refused, read-replied}
 use Rattle.answer.proofs.answer.on_read.Statement.{statement}
 use Rattle.answer.proofs.answer.on_read.Tie as tie
-use Rattle.answer.proofs.answer.on_read.Reads as reads
-use Rattle.answer.proofs.answer.on_read.Lts as lts
-use Rattle.answer.proofs.answer.is_readable.Reads as is-readable-reads
-use Rattle.answer.proofs.answer.refuse.Reads as refuse-reads
-use Rattle.answer.proofs.reply.put_reading.Reads as put-reading-reads
-use Rattle.tree.proofs.cells.read_word.Reads as read-word-reads
 
--- src/answer.rt:86:9
 is-readable-requires : tie.Need-is-readable-requires
 is-readable-requires c κs = search needs
 
--- src/answer.rt:87:9
 refuse-requires : tie.Need-refuse-requires
 refuse-requires c κs = search needs
 
--- src/answer.rt:87:9
 same-length : tie.Need-same-length
 same-length c = search needs
 
--- src/answer.rt:87:9
 returns : tie.Need-returns
-returns c = ?
+returns c =
+    let told = c .before .before .before .before .before in
+    let start = told .before .before .before .before in
+    answers-as (read-refused _ _ _ _ (sym (told .is-readable .ensures) ∙ not-true (told .is-readable .result) (c .before .before .before .before .if1 .taken)))
+    (refused (lent-form (start .args .tree .now) (start .args .cells .now) (start .pre .1 .0)) (c .before .before .refuse .ensures))
 
--- src/answer.rt:91:33
 read-word-requires : tie.Need-read-word-requires
 read-word-requires c κs = search needs
 
--- src/answer.rt:91:14
 put-reading-requires : tie.Need-put-reading-requires
 put-reading-requires c κs = search needs
 
--- src/answer.rt:82:1
 same-length-2 : tie.Need-same-length-2
 same-length-2 c = search needs
 
--- src/answer.rt:82:1
 returns-2 : tie.Need-returns-2
-returns-2 c = ?
+returns-2 c =
+    let put = c .before .before in
+    let word = put .before .before in
+    let told = word .before .before in
+    let start = told .before .before .before .before in
+    answers-as (read-replied _ _ _ _ (sym (told .is-readable .ensures) ∙ not-false (told .is-readable .result) (word .before .if1 .left)))
+    (replied (lent-form (start .args .tree .now) (start .args .cells .now) (start .pre .1 .0))
+    (put .put-reading .ensures (cellIn (cellsIn (start .args .cells .now)) (start .args .place)) (sym (word .read-word .ensures))))
 
 pub on-read-spec : {M : Type 1} → statement M
 on-read-spec =

@@ -1,93 +1,123 @@
+-- `answer::answer::on_write` meets its contract. Assumes nothing.
+use Prim.Native.Nat.{ℕ}
+use mathlib.Core.Path.{_≡_, refl, ap, _∙_}
+use mathlib.Core.List.{List}
 use borrow.Author.Needs.{needs}
+use Rattle.protocol.specs.Tree.{propertyIn}
+use Rattle.protocol.specs.Answer.{Outcome, writeNumber, actionOf, cellsAfter, outcome, onWrite}
+use Rattle.tree.specs.Seen.{seen}
+use Rattle.tree.specs.Cells.{cellsForm, cellsIn}
+use Rattle.tree.proofs.CellLaws.{lent-form}
+use Rattle.answer.specs.Reply.{requestIn, meaning, actionNumber, Answers}
+use Rattle.answer.proofs.AnswerLaws.{outcome-same, writes, saved-cells}
 use Rattle.answer.proofs.answer.on_write.Statement.{statement}
 use Rattle.answer.proofs.answer.on_write.Tie as tie
-use Rattle.answer.proofs.answer.on_write.Reads as reads
-use Rattle.answer.proofs.answer.on_write.Lts as lts
-use Rattle.answer.proofs.answer.not_saved.Reads as not-saved-reads
-use Rattle.answer.proofs.reply.put_written.Reads as put-written-reads
-use Rattle.answer.proofs.write.outcome_of.Reads as outcome-of-reads
-use Rattle.tree.proofs.cells.store_word.Reads as store-word-reads
-use Rattle.tree.proofs.record.read_fields.Reads as read-fields-reads
 
--- src/answer.rt:101:31
+-- Where the function begins, from where the reply is written.
+abbrev start-of : tie.After-slice-known3 → tie.Start
+start-of c = c .before .before .before .before .before .before .before .before .before
+
+lent : (c : tie.After-slice-known3) → start-of c .args .cells .now ≡ cellsForm (cellsIn (start-of c .args .cells .now))
+lent c = lent-form (start-of c .args .tree .now) (start-of c .args .cells .now) (start-of c .pre .1 .0)
+
+-- What is answered, by what the write did.
+wrote : (c : tie.After-slice-known3) {did : Outcome} {n size action : ℕ} {cells : List ℕ}
+    → let put = c .before .before in
+    let start = start-of c in
+    let cs = cellsIn (start .args .cells .now) in
+    meaning (put .before .before .outcome-of .result) ≡ did → n ≡ writeNumber did → size ≡ put .put-written .result
+    → action ≡ actionNumber (actionOf did (start .args .place))
+    → cells ≡ cellsForm (cellsAfter did cs (start .args .place) (start .args .asked .value))
+    → Answers
+    (onWrite cs (start .args .place) (requestIn (start .args .asked)) (outcome (propertyIn (seen (start .args .tree .now)) (start .args .place)) (start .args .asked .value)))
+    (start .args .out .now) n size action cells (put .put-written .last .1 .1 .0)
+wrote c is number len action cells =
+    let put = c .before .before in
+    let told = put .before .before in
+    let start = start-of c in
+    writes (cellsIn (start .args .cells .now)) (start .args .place) (requestIn (start .args .asked))
+    (told .outcome-of .ensures ∙ outcome-same (start .args .asked .value) (told .before .read-fields .ensures))
+    is (put .put-written .ensures) number len action cells
+
 read-fields-requires : tie.Need-read-fields-requires
 read-fields-requires c κs = search needs
 
--- src/answer.rt:101:9
 outcome-of-requires : tie.Need-outcome-of-requires
 outcome-of-requires c κs = search needs
 
--- src/answer.rt:102:9
 put-written-requires : tie.Need-put-written-requires
 put-written-requires c κs = search needs
 
--- src/answer.rt:105:31
 enum-told : tie.Need-enum-told
 enum-told c = search needs
 
--- src/answer.rt:105:13
 store-word-requires : tie.Need-store-word-requires
 store-word-requires c κs = search needs
 
--- src/answer.rt:115:21
 enum-told-2 : tie.Need-enum-told-2
 enum-told-2 c = search needs
 
--- src/answer.rt:115:21
 cast-t15 : tie.Need-cast-t15
 cast-t15 c = search needs
 
--- src/answer.rt:117:30
 enum-told-3 : tie.Need-enum-told-3
 enum-told-3 c = search needs
 
--- src/answer.rt:117:30
 not-saved-requires : tie.Need-not-saved-requires
 not-saved-requires c κs = search needs
 
--- src/answer.rt:118:32
 enum-told-4 : tie.Need-enum-told-4
 enum-told-4 c = search needs
 
--- src/answer.rt:118:32
 not-saved-requires-2 : tie.Need-not-saved-requires-2
 not-saved-requires-2 c κs = search needs
 
--- src/answer.rt:97:1
 same-length : tie.Need-same-length
 same-length c = search needs
 
--- src/answer.rt:97:1
 same-length-2 : tie.Need-same-length-2
 same-length-2 c = search needs
 
--- src/answer.rt:97:1
 returns : tie.Need-returns
-returns c = ?
+unfolding writeNumber actionOf cellsAfter
+returns c =
+    let stored = c .before .before in
+    let arm = stored .before .before in
+    let put = arm .before .before in
+    let start = start-of put in
+    wrote put (ap meaning (arm .enum-told .given .1)) refl refl refl
+    (saved-cells (cellsIn (start .args .cells .now)) (start .args .place) (start .args .asked .value) (lent put) (stored .store-word .ensures))
 
--- src/answer.rt:97:1
 same-length-3 : tie.Need-same-length-3
 same-length-3 c = search needs
 
--- src/answer.rt:97:1
 returns-2 : tie.Need-returns-2
-returns-2 c = ?
+unfolding writeNumber actionOf cellsAfter
+returns-2 c =
+    let put = c .before .before in
+    wrote put (ap meaning (c .enum-told2 .given .1)) refl refl refl (lent put)
 
--- src/answer.rt:97:1
 same-length-4 : tie.Need-same-length-4
 same-length-4 c = search needs
 
--- src/answer.rt:97:1
 returns-3 : tie.Need-returns-3
-returns-3 c = ?
+unfolding writeNumber actionOf cellsAfter
+returns-3 c =
+    let arm = c .before in
+    let put = arm .before .before in
+    let done = c .not-saved .ensures in
+    wrote put (ap meaning (arm .enum-told3 .given .1)) (done .0) (done .1 .0) (done .1 .1) (lent put)
 
--- src/answer.rt:97:1
 same-length-5 : tie.Need-same-length-5
 same-length-5 c = search needs
 
--- src/answer.rt:97:1
 returns-4 : tie.Need-returns-4
-returns-4 c = ?
+unfolding writeNumber actionOf cellsAfter
+returns-4 c =
+    let arm = c .before in
+    let put = arm .before .before in
+    let done = c .not-saved2 .ensures in
+    wrote put (ap meaning (arm .enum-told4 .given .1)) (done .0) (done .1 .0) (done .1 .1) (lent put)
 
 pub on-write-spec : {M : Type 1} → statement M
 on-write-spec =

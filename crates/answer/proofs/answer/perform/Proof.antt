@@ -1,72 +1,107 @@
+-- `answer::answer::perform` meets its contract. Assumes nothing.
+use Prim.Native.Nat.{_≤_}
+use native.Mathlib.Omega.{arith}
+use mathlib.Core.Path.{_≡_, sym, _∙_}
+use mathlib.Core.Option.{some}
 use borrow.Author.Needs.{needs}
+use lib.ListN.{length, length-map}
+use Rattle.protocol.specs.Tree.{nodeAt}
+use Rattle.request.proofs.WriteLaws.{part-size}
+use Rattle.tree.specs.Seen.{seen}
+use Rattle.tree.specs.Cells.{cellsForm, cellsIn}
+use Rattle.tree.proofs.CellLaws.{lent-form}
+use Rattle.tree.proofs.FoundLaws.{found-at, found-none}
+use Rattle.answer.specs.Reply.{requestIn}
+use Rattle.answer.proofs.AnswerLaws.{refused, replied, answers-as, is-detect, no-node, at-node}
 use Rattle.answer.proofs.answer.perform.Statement.{statement}
 use Rattle.answer.proofs.answer.perform.Tie as tie
-use Rattle.answer.proofs.answer.perform.Reads as reads
-use Rattle.answer.proofs.answer.perform.Lts as lts
-use Rattle.answer.proofs.answer.on_node.Reads as on-node-reads
-use Rattle.answer.proofs.answer.refuse.Reads as refuse-reads
-use Rattle.answer.proofs.reply.put_code.Reads as put-code-reads
-use Rattle.tree.proofs.find.node.Reads as node-reads
 
--- src/answer.rt:176:18
+-- Where the function begins, from where it tests the op.
+abbrev start-of : tie.After-struct-known → tie.Start
+start-of c = c .before .before .before .before
+
+lent : (c : tie.After-struct-known) → start-of c .args .cells .now ≡ cellsForm (cellsIn (start-of c .args .cells .now))
+lent c = lent-form (start-of c .args .tree .now) (start-of c .args .cells .now) (start-of c .pre .1 .0)
+
+-- The path lies within its array.
+path-fits : (c : tie.Start) → c .args .asked .len ≤ length (c .args .asked .path)
+path-fits c =
+    omega (arith, c .good .1 .1 .0 .1 .1 .1 .1 .0 .1 .0 .1, length-map (c .args .asked .path) (λ b. b), c .pre .1 .1 .short)
+
+-- The node that was found.
+found : (c : tie.After-node2)
+    → let start = start-of (c .before .before .before .before .before .before) in
+    nodeAt (seen (start .args .tree .now)) (requestIn (start .args .asked) .path) ≡ some (c .node2 .given .0 .0)
+found c =
+    let find = c .before .before in
+    let start = start-of (find .before .before .before .before) in
+    found-at (nodeAt (seen (start .args .tree .now)) (requestIn (start .args .asked) .path))
+    (sym (c .node2 .given .1) ∙ find .node .ensures)
+
 put-code-requires : tie.Need-put-code-requires
 put-code-requires c κs = search needs
 
--- src/answer.rt:174:9
 same-length : tie.Need-same-length
 same-length c = search needs
 
--- src/answer.rt:174:9
 returns : tie.Need-returns
-returns c = ?
+returns c =
+    let put = c .before .before in
+    let test = put .before .before in
+    answers-as (is-detect _ _ _ (test .if1 .taken)) (replied (lent (test .before)) (put .put-code .ensures))
 
--- src/answer.rt:182:44
 array-share-prefix-path : tie.Need-array-share-prefix-path
-array-share-prefix-path c = ?
+array-share-prefix-path c = path-fits (start-of (c .before .before))
 
--- src/answer.rt:182:44
 slice-aggregate-node : tie.Need-slice-aggregate-node
-slice-aggregate-node c = ?
+slice-aggregate-node c =
+    let start = start-of (c .before .before .before) in
+    part-size (start .args .asked .len) (start .args .asked .path) (path-fits start)
 
--- src/answer.rt:182:27
 node-requires : tie.Need-node-requires
 node-requires c κs = search needs
 
--- src/answer.rt:182:19
 enum-known-node : tie.Need-enum-known-node
 enum-known-node c = search needs
 
--- src/answer.rt:183:38
 enum-told : tie.Need-enum-told
 enum-told c = search needs
 
--- src/answer.rt:183:9
 refuse-requires : tie.Need-refuse-requires
 refuse-requires c κs = search needs
 
--- src/answer.rt:183:9
 same-length-2 : tie.Need-same-length-2
 same-length-2 c = search needs
 
--- src/answer.rt:183:9
 returns-2 : tie.Need-returns-2
-returns-2 c = ?
+returns-2 c =
+    let told = c .before .before .before .before in
+    let find = told .before .before in
+    let test = find .before .before .before in
+    let start = start-of (test .before) in
+    answers-as
+    (no-node _ _ _ (test .if1 .left)
+    (found-none (nodeAt (seen (start .args .tree .now)) (requestIn (start .args .asked) .path))
+    (sym (told .enum-told .given .1) ∙ find .node .ensures)))
+    (refused (lent (test .before)) (c .before .before .refuse .ensures))
 
--- src/answer.rt:185:5
 on-node-requires : tie.Need-on-node-requires
-on-node-requires c κs = ?
+on-node-requires c κs =
+    let test = c .before .before .before .before .before .before .before .before in
+    let start = start-of (test .before) in
+    (start .pre .0, (start .pre .1 .0, (start .pre .1 .1, omega (arith, test .if1 .left))))
 
--- src/answer.rt:169:1
 same-length-3 : tie.Need-same-length-3
 same-length-3 c = search needs
 
--- src/answer.rt:169:1
 same-length-4 : tie.Need-same-length-4
 same-length-4 c = search needs
 
--- src/answer.rt:169:1
 returns-3 : tie.Need-returns-3
-returns-3 c = ?
+returns-3 c =
+    let answered = c .before .before .before .before in
+    let known = answered .before .before .before .before in
+    answers-as (at-node _ _ _ (known .before .before .before .before .before .if1 .left) (found known)) (answered .on-node .ensures)
 
 pub perform-spec : {M : Type 1} → statement M
 perform-spec =
