@@ -65,11 +65,11 @@ readRequest-told (c ∷ []) =
 readRequest-told (c ∷ op ∷ bs) =
     if-case Told (eqb c PDI && leb op opWriteExtended)
     (λ e.
-      let r : Reads op (readShape op bs) = reads-shape op bs in
-      record {
-        op = λ d. omega (arith, r .is d, leb-true op opWriteExtended (and-right (eqb c PDI) _ e));
-        late = r .late;
-      })
+    let r : Reads op (readShape op bs) = reads-shape op bs in
+    record {
+      op = λ d. omega (arith, r .is d, leb-true op opWriteExtended (and-right (eqb c PDI) _ e));
+      late = r .late;
+    })
     (λ e. told-declined unknownCommand (omega arith) (omega arith))
 
 pub readRequest-allowed : (bs : List ℕ) → readRequest bs .number ≡ done → Allowed (readRequest bs .request)
@@ -163,8 +163,8 @@ module _ (r : Received) (early : Early r) {x : declared.Asked} (h : AskedIs (rea
   pub row-of-string : 0 < x .number → x .number < disabled → Refused r x
   row-of-string p q =
       let bad : r .number ≡ done → ⊥ = λ e.
-          let same : x .number ≡ readRequest (r .payload) .number = h .number ∙ ap (λ a. a .number) (payload-done e) in
-          omega (arith, p, q, same, readRequest-told (r .payload) .late (λ d. omega (arith, p, same, d)) .0) in
+      let same : x .number ≡ readRequest (r .payload) .number = h .number ∙ ap (λ a. a .number) (payload-done e) in
+      omega (arith, p, q, same, readRequest-told (r .payload) .late (λ d. omega (arith, p, same, d)) .0) in
       record { number = h .number ∙ ap (λ a. a .number) (payload-bad bad); bad = bad }
 
   pub row-of-data : (0 < x .number → disabled ≤ x .number) → Read r x

@@ -5,7 +5,7 @@ use super::PROPERTY_SIZE;
 use super::bytes;
 use super::texts;
 ghost use mathlib.Core.Path.{_≡_};
-ghost use lib.ListN.{getD};
+ghost use lib.ListN.{length, getD};
 ghost use Rattle.protocol.specs.Numbers.{bitRead, bitWrite, bitLive, bitSigned};
 ghost use Rattle.protocol.specs.Bytes.{bit, text, ordered, atMost};
 ghost use Rattle.protocol.specs.Buffer.{Put, fitting};
@@ -69,6 +69,13 @@ pub fn at_most(signed: bool, m: u32, n: u32) -> bool
     ensures { λ r. ⌜ r ≡ atMost signed m n ⌝ }
 {
     ordered_word(signed, m) <= ordered_word(signed, n)
+}
+
+// How many properties there are.
+pub fn property_count(tree: &[u8]) -> usize
+    ensures { λ r. ⌜ r ≡ length (seen (now (tree .entry)) .properties) ⌝ }
+{
+    bytes::wide(bytes::byte_at(tree, 1))
 }
 
 // Where the property records begin.

@@ -78,11 +78,12 @@ answer-asked-requires c κs =
     let read = c .before in
     let else2 = read .before .before in
     let else1 = else2 .before .before in
-    let start = start-of (else1 .before) in
-    (
+    let start = start-of (else1 .before) in (
       omega (arith, unrefused else1 .roomy),
-      (unrefused else1 .lent,
-      asks (start .args .request .now) (asked-is _ (read .read-data .ensures)) (read .read-data .ensures .len)),
+      (
+        unrefused else1 .lent,
+        asks (start .args .request .now) (asked-is _ (read .read-data .ensures)) (read .read-data .ensures .len),
+      ),
     )
 
 same-length-3 : tie.Need-same-length-3

@@ -100,8 +100,7 @@ answer-asked-requires : tie.Need-answer-asked-requires
 answer-asked-requires c κs =
     let else2 = c .before .before in
     let start = start-of (else-of else2 .before) in
-    let ready = unrefused (else-of else2) in
-    (
+    let ready = unrefused (else-of else2) in (
       omega (arith, ready .roomy, ap length (part-lent 4 (start .args .out .now)) ∙ length-drop 4 (start .args .out .now)),
       (ready .lent, good else2 .asked),
     )

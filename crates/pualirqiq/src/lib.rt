@@ -1,0 +1,285 @@
+// The C interface of the box (include/pualirqiq.h): every call on numbers and byte slices, thin over the crates below.
+use protocol::DONE;
+use protocol::PropertyIndex;
+use protocol::UNSOUND;
+ghost use mathlib.Core.Path.{_≡_};
+ghost use mathlib.Core.Bool.{true};
+ghost use lib.ListN.{length};
+ghost use Rattle.protocol.specs.Numbers.{roomSerial, roomUdp};
+ghost use Rattle.protocol.specs.Frame.{ifRoom, writeFrame, writeDatagram};
+ghost use Rattle.protocol.specs.Buffer.{Emits};
+ghost use Rattle.protocol.specs.Request.{readSerial, readUdp, serialForm, udpForm};
+ghost use Rattle.protocol.specs.Tree.{cellIn};
+ghost use Rattle.frame.specs.Stream.{stateLength, fed, Feeds};
+ghost use Rattle.request.specs.Asked.{requestOf};
+ghost use Rattle.request.specs.Write.{writeRequest};
+ghost use Rattle.tree.specs.Cells.{markOf, cellsIn};
+ghost use Rattle.tree.specs.Lent.{lentNumber, Posts, postIn};
+ghost use Rattle.answer.specs.Serve.{serveData, serveSerial, serveUdp, Serves};
+ghost use Rattle.pualirqiq.specs.Calls.{truth, Zeroes, isStateSized, cellsSize, isCellsSized, HandsBack};
+
+// How long a stream state is.
+#[no_mangle]
+pub extern "C" fn pq_state_size() -> usize
+    ensures { λ r. ⌜ r ≡ stateLength ⌝ }
+{
+    frame::stream::STATE_LEN
+}
+
+// A buffer of zeros. Returns 0.
+fn clear(buffer: &mut [u8]) -> u8
+    ensures { λ r. ⌜ Zeroes true (length (now (buffer .entry))) (now (buffer .entry)) r (now (buffer .exit)) ⌝ }
+{
+    let mut i = 0;
+    while i < buffer.len() {
+        buffer[i] = 0;
+        i += 1;
+    }
+    DONE
+}
+
+// A state in which a stream begins: 1 or 0.
+#[no_mangle]
+pub extern "C" fn pq_begin_stream(state: &mut [u8]) -> u8
+    ensures { λ r. ⌜ Zeroes (isStateSized (now (state .entry))) stateLength (now (state .entry)) r (now (state .exit)) ⌝ }
+{
+    if state.len() != frame::stream::STATE_LEN {
+        return UNSOUND;
+    }
+    clear(state)
+}
+
+// Bytes fed to the stream reader: 1, 8, then what the stream rule gives, or 255 where no frame ended.
+#[no_mangle]
+pub extern "C" fn pq_feed(
+    state: &mut [u8],
+    address: u8,
+    bytes: &[u8],
+    out: &mut [u8],
+    taken: &mut usize,
+    len: &mut usize,
+) -> u8
+    ensures { λ r. ⌜ Feeds (fed address (now (state .entry)) (now (bytes .entry)) (length (now (out .entry)))) (now (out .entry)) r (now (taken .exit)) (now (len .exit)) (now (state .exit)) (now (out .exit)) ⌝ }
+{
+    let fed = frame::stream::feed(state, address, bytes, out);
+    *taken = fed.taken;
+    *len = fed.len;
+    fed.number
+}
+
+// The check of a tree and its cells: 1 or 0.
+#[no_mangle]
+pub extern "C" fn pq_check(tree: &[u8], cells: &[u8]) -> u8
+    ensures { λ r. ⌜ r ≡ lentNumber (now (tree .entry)) (now (cells .entry)) ⌝ }
+{
+    tree::check::check(tree, cells)
+}
+
+// How many bytes the cells of a tree take; 0 where it is not sound.
+#[no_mangle]
+pub extern "C" fn pq_cells_size(tree: &[u8]) -> usize
+    ensures { λ r. ⌜ r ≡ cellsSize (now (tree .entry)) ⌝ }
+{
+    if !tree::check::is_tree(tree) {
+        return 0;
+    }
+    tree::record::property_count(tree) * tree::CELL_SIZE
+}
+
+// Cells that begin: every word 0, none ready: 1 or 0.
+#[no_mangle]
+pub extern "C" fn pq_begin_cells(tree: &[u8], cells: &mut [u8]) -> u8
+    ensures { λ r. ⌜ Zeroes (isCellsSized (now (tree .entry)) (now (cells .entry))) (cellsSize (now (tree .entry))) (now (cells .entry)) r (now (cells .exit)) ⌝ }
+{
+    if !tree::check::is_tree(tree) {
+        return UNSOUND;
+    }
+    if cells.len() != tree::record::property_count(tree) * tree::CELL_SIZE {
+        return UNSOUND;
+    }
+    clear(cells)
+}
+
+// A reading posted to a live property: 1, 14 or 0.
+#[no_mangle]
+pub extern "C" fn pq_post(tree: &[u8], cells: &mut [u8], place: usize, word: u32, ready: u8) -> u8
+    ensures { λ r. ⌜ Posts (postIn (now (tree .entry)) (now (cells .entry)) place word (truth ready)) r (now (cells .exit)) ⌝ }
+{
+    tree::cells::post(tree, cells, place, word, ready != 0)
+}
+
+// The word of a property's cell, and whether it is marked ready; 0 where there is none.
+#[no_mangle]
+pub extern "C" fn pq_word(cells: &[u8], place: usize) -> u32
+    ensures { λ r. ⌜ r ≡ cellIn (cellsIn (now (cells .entry))) place .word ⌝ }
+{
+    tree::cells::read_word(cells, place)
+}
+
+#[no_mangle]
+pub extern "C" fn pq_is_ready(cells: &[u8], place: usize) -> u8
+    ensures { λ r. ⌜ r ≡ markOf (cellIn (cellsIn (now (cells .entry))) place .ready) ⌝ }
+{
+    if tree::cells::is_ready(cells, place) {
+        return 1;
+    }
+    0
+}
+
+// Request data served: 1, 8, 4, 5, 9, 10, 11, 12, 13 or 0.
+#[no_mangle]
+pub extern "C" fn pq_serve_data(
+    tree: &[u8],
+    cells: &mut [u8],
+    host: u8,
+    request: &[u8],
+    out: &mut [u8],
+    len: &mut usize,
+    action: &mut u8,
+) -> u8
+    ensures { λ r. ⌜ Serves (serveData (length (now (out .entry))) (now (request .entry)) (truth host) (now (tree .entry)) (now (cells .entry))) (now (out .entry)) r (now (len .exit)) (now (action .exit)) (now (cells .exit)) (now (out .exit)) ⌝ }
+{
+    let served = answer::serve::serve_data(tree, cells, host != 0, request, out);
+    *len = served.len;
+    *action = served.action;
+    served.number
+}
+
+// A serial string served for the box's address: 1, 8, 2, 3, 4, 5, 6, 7, 9, 10, 11, 12, 13 or 0.
+#[no_mangle]
+pub extern "C" fn pq_serve_serial(
+    tree: &[u8],
+    cells: &mut [u8],
+    host: u8,
+    address: u8,
+    string: &[u8],
+    out: &mut [u8],
+    len: &mut usize,
+    action: &mut u8,
+) -> u8
+    ensures { λ r. ⌜ Serves (serveSerial address (length (now (out .entry))) (now (string .entry)) (truth host) (now (tree .entry)) (now (cells .entry))) (now (out .entry)) r (now (len .exit)) (now (action .exit)) (now (cells .exit)) (now (out .exit)) ⌝ }
+{
+    let served = answer::serve::serve_serial(tree, cells, host != 0, address, string, out);
+    *len = served.len;
+    *action = served.action;
+    served.number
+}
+
+// A datagram served: 1, 8, 2, 4, 5, 9, 10, 11, 12, 13 or 0.
+#[no_mangle]
+pub extern "C" fn pq_serve_udp(
+    tree: &[u8],
+    cells: &mut [u8],
+    host: u8,
+    datagram: &[u8],
+    out: &mut [u8],
+    len: &mut usize,
+    action: &mut u8,
+) -> u8
+    ensures { λ r. ⌜ Serves (serveUdp (length (now (out .entry))) (now (datagram .entry)) (truth host) (now (tree .entry)) (now (cells .entry))) (now (out .entry)) r (now (len .exit)) (now (action .exit)) (now (cells .exit)) (now (out .exit)) ⌝ }
+{
+    let served = answer::serve::serve_udp(tree, cells, host != 0, datagram, out);
+    *len = served.len;
+    *action = served.action;
+    served.number
+}
+
+// Data framed for an address: 8, 4, 5 or 0.
+#[no_mangle]
+pub extern "C" fn pq_frame(address: u8, payload: &[u8], out: &mut [u8], len: &mut usize) -> u8
+    ensures { λ r. ⌜ Emits (ifRoom roomSerial (length (now (out .entry))) (writeFrame address (now (payload .entry)))) (now (out .entry)) r (now (len .exit)) (now (out .exit)) ⌝ }
+{
+    let written = frame::write::write_frame(address, payload, out);
+    *len = written.len;
+    written.number
+}
+
+// Data in a datagram: 8, 4, 5 or 0.
+#[no_mangle]
+pub extern "C" fn pq_datagram(payload: &[u8], out: &mut [u8], len: &mut usize) -> u8
+    ensures { λ r. ⌜ Emits (ifRoom roomUdp (length (now (out .entry))) (writeDatagram (now (payload .entry)))) (now (out .entry)) r (now (len .exit)) (now (out .exit)) ⌝ }
+{
+    let written = frame::udp::write_datagram(payload, out);
+    *len = written.len;
+    written.number
+}
+
+// A serial string read as a request: 2, 3, 4, 5, 6, 7, 10, 11 or 0.
+#[no_mangle]
+pub extern "C" fn pq_read_serial(
+    address: u8,
+    string: &[u8],
+    op: &mut u8,
+    path: &mut [u8; 16],
+    len: &mut usize,
+    index: &mut u8,
+    value: &mut u32,
+) -> u8
+    ensures { λ r. ⌜ HandsBack (readSerial address (now (string .entry))) r (now (op .exit)) (now (path .exit)) (now (len .exit)) (now (index .exit)) (now (value .exit)) ⌝ }
+{
+    let asked = request::read::read_serial(address, string);
+    *op = asked.op;
+    let nodes = asked.path;
+    *path = nodes;
+    *len = asked.len;
+    *index = asked.index.0;
+    *value = asked.value;
+    asked.number
+}
+
+// A datagram read as a request: 2, 4, 5, 10, 11 or 0.
+#[no_mangle]
+pub extern "C" fn pq_read_udp(
+    datagram: &[u8],
+    op: &mut u8,
+    path: &mut [u8; 16],
+    len: &mut usize,
+    index: &mut u8,
+    value: &mut u32,
+) -> u8
+    ensures { λ r. ⌜ HandsBack (readUdp (now (datagram .entry))) r (now (op .exit)) (now (path .exit)) (now (len .exit)) (now (index .exit)) (now (value .exit)) ⌝ }
+{
+    let asked = request::read::read_udp(datagram);
+    *op = asked.op;
+    let nodes = asked.path;
+    *path = nodes;
+    *len = asked.len;
+    *index = asked.index.0;
+    *value = asked.value;
+    asked.number
+}
+
+// A request written out in a frame for an address: 8, 10, 11 or 0.
+#[no_mangle]
+pub extern "C" fn pq_write_serial(
+    address: u8,
+    op: u8,
+    path: &[u8],
+    index: u8,
+    value: u32,
+    out: &mut [u8],
+    len: &mut usize,
+) -> u8
+    ensures { λ r. ⌜ Emits (writeRequest roomSerial (length (now (out .entry))) (serialForm address) (requestOf op (now (path .entry)) index value)) (now (out .entry)) r (now (len .exit)) (now (out .exit)) ⌝ }
+{
+    let written = request::write::write_serial(address, op, path, PropertyIndex(index), value, out);
+    *len = written.len;
+    written.number
+}
+
+// A request written out in a datagram: 8, 10, 11 or 0.
+#[no_mangle]
+pub extern "C" fn pq_write_udp(
+    op: u8,
+    path: &[u8],
+    index: u8,
+    value: u32,
+    out: &mut [u8],
+    len: &mut usize,
+) -> u8
+    ensures { λ r. ⌜ Emits (writeRequest roomUdp (length (now (out .entry))) udpForm (requestOf op (now (path .entry)) index value)) (now (out .entry)) r (now (len .exit)) (now (out .exit)) ⌝ }
+{
+    let written = request::write::write_udp(op, path, PropertyIndex(index), value, out);
+    *len = written.len;
+    written.number
+}
