@@ -10,12 +10,12 @@ use mathlib.Core.Logic.{_⊎_, inl, inr}
 use borrow.Author.Tests.{eqb-true, eqb-false, ltb-true, lt-ltb, le-ltb, eq-eqb}
 use lib.ListN.{length, set}
 use lib.Dec.{eqb, ltb}
-use Rattle.protocol.specs.Numbers.{done, unsound, noRoom, disabled, badParameter, noReading, notSaved, NAK, DISABLED, opDetect, opNode, opRecord, opRead, saveFailed, wordEnd}
+use Rattle.protocol.specs.Numbers.{done, unsound, noRoom, disabled, badParameter, noReading, notSaved, notLive, NAK, DISABLED, opDetect, opNode, opRecord, opRead, saveFailed, wordEnd}
 use Rattle.protocol.specs.Bytes.{Bytes, every}
 use Rattle.protocol.specs.Frame.{Received}
 use Rattle.protocol.specs.Buffer.{over}
 use Rattle.protocol.specs.Request.{Request, pathFits, indexFits, fits, readRequest}
-use Rattle.protocol.specs.Tree.{Tree, Cell, isLive, propertyOf, nodeAt, propertyIn, cellIn, cellsSound, readable}
+use Rattle.protocol.specs.Tree.{Tree, Cell, isLive, propertyOf, nodeAt, propertyIn, cellIn, cellsSound, readable, Posting, posted, post}
 use Rattle.protocol.specs.Answer.{Answer, plain, stored, Outcome, saved, taken, readOnly, outOfRange, outcome, saveByte, writeNumber, writeReply, refusalCode, refuse, onRead, onWrite, onProperty, ifProperty, ifNode, perform, ifAsked, answer}
 use Rattle.protocol.proofs.TestLaws.{and-left, and-right, and-both, if-both, if-case}
 use Rattle.protocol.proofs.BufferLaws.{over-nil}
@@ -23,10 +23,10 @@ use Rattle.protocol.proofs.AnswerLaws.{readRequest-fits, Finds, open-probe, Sav
 use Rattle.protocol.proofs.RuleLaws.{host-off}
 use Rattle.tree.specs.Seen.{seen, isTree}
 use Rattle.tree.specs.Cells.{cellsForm, cellsIn, hasCells}
-use Rattle.tree.specs.Lent.{isLent}
+use Rattle.tree.specs.Lent.{isLent, Posted, Posts, postIn}
 use Rattle.tree.proofs.CellLaws.{inWidth, cells-in-form, cells-fit, lent-form}
-use Rattle.answer.specs.Serve.{turnedAway, inForm, Call, serving, Serves}
-use Rattle.answer.proofs.ReadLaws.{readRequest-told, Early}
+use Rattle.answer.specs.Serve.{turnedAway, inForm, Call, serving, dataCall, serialCall, udpCall, serveData, serveSerial, serveUdp, Serves}
+use Rattle.answer.proofs.ReadLaws.{readRequest-told, Early, early-sized, early-frame, early-datagram}
 use Rattle.answer.proofs.ServeLaws.{answerTo, Open, serve-by}
 
 -- The cells that lie beside a lent tree are sound for it.
@@ -246,3 +246,61 @@ module _ (k : Call) (early : Early (k .string)) {out cells′ out′ : List ℕ}
           inl (h .bytes ∙ ap (λ s. over (s .written) out) e ∙ over-nil out),
         )
         go (answered l d e) = told e (host-case (k .host))
+
+-- All of it, of one call.
+pub record Kept (k : Call) (out : List ℕ) (n : ℕ) (cells′ out′ : List ℕ) : Type 0 where
+  pub rows-1-to-8 : 0 < n → n < disabled → (cells′ ≡ k .cells) × (out′ ≡ out)
+  pub rows-9-to-13 : disabled ≤ n → (cells′ ≡ k .cells) × Refusal k n out out′
+  pub others : Bytes (k .cells) → (place : ℕ) → ((value : ℕ) → Saves (seen (k .tree)) (k .string .payload) place value → ⊥)
+      → cellIn (cellsIn cells′) place ≡ cellIn (cellsIn (k .cells)) place
+  pub writes : Bytes (k .cells) → Open k → k .string .number ≡ done → k .host ≡ true → (place value : ℕ)
+      → Saves (seen (k .tree)) (k .string .payload) place value → (n ≡ done) × (cellIn (cellsIn cells′) place .word ≡ value)
+  pub open-probes : (r : Request) (place : ℕ) → readRequest (k .string .payload) ≡ record { number = done; request = r } → r .op ≡ opRead
+      → Finds (seen (k .tree)) r place → isLive (propertyIn (seen (k .tree)) place) ≡ true → cellIn (cellsIn (k .cells)) place .ready ≡ false
+      → (n ≡ done → ⊥) × ((out′ ≡ out) ⊎ ((out′ ≡ over (k .form (DISABLED ∷ [])) out) ⊎ (out′ ≡ over (k .form (NAK ∷ [])) out)))
+
+kept : (k : Call) → Early (k .string) → {out cells′ out′ : List ℕ} {n size action : ℕ} → Serves (serving k) out n size action cells′ out′
+    → Kept k out n cells′ out′
+kept k early h =
+    record {
+      rows-1-to-8 = early-refusal k early h;
+      rows-9-to-13 = late-refusal k early h;
+      others = others-kept k early h;
+      writes = write-kept k early h;
+      open-probes = open-probe-silent k early h;
+    }
+
+-- By each road: what `serve_data`, `serve_serial` and `serve_udp` promise keeps demands 1 and 2.
+module _ (room : ℕ) (bs : List ℕ) (host : Bool) (tree cells : List ℕ) {out cells′ out′ : List ℕ} {n size action : ℕ} where
+  pub data-kept : Serves (serveData room bs host tree cells) out n size action cells′ out′
+      → Kept (dataCall room bs host tree cells) out n cells′ out′
+  data-kept h = kept (dataCall room bs host tree cells) (early-sized bs) h
+
+  pub serial-kept : (address : ℕ) → Serves (serveSerial address room bs host tree cells) out n size action cells′ out′
+      → Kept (serialCall address room bs host tree cells) out n cells′ out′
+  serial-kept address h = kept (serialCall address room bs host tree cells) (early-frame address bs) h
+
+  pub udp-kept : Serves (serveUdp room bs host tree cells) out n size action cells′ out′
+      → Kept (udpCall room bs host tree cells) out n cells′ out′
+  udp-kept h = kept (udpCall room bs host tree cells) (early-datagram bs) h
+
+-- Refusals 1 and 14 of a posting change no cell.
+pub post-kept : (tree cells : List ℕ) (place w : ℕ) (ready : Bool) {n : ℕ} {cells′ : List ℕ} → Posts (postIn tree cells place w ready) n cells′
+    → (n ≡ done → ⊥) → cells′ ≡ cells
+unfolding postIn post
+post-kept tree cells place w ready {n} {cells′} h u =
+    go (isLent tree cells) (ltb place (length (seen tree .properties)) && isLive (propertyIn (seen tree) place)) refl (h .number) (h .bytes)
+  where
+    changed : List Cell
+    changed = set (cellsIn cells) place (posted (cellIn (cellsIn cells) place) w ready)
+
+    given : Bool → Posting
+    given v = cond v (record { number = done; cells = changed }) (record { number = notLive; cells = cellsIn cells })
+
+    told : Bool → Bool → Posted
+    told t v = cond t (record { number = given v .number; bytes = cellsForm (given v .cells) }) (record { number = unsound; bytes = cells })
+
+    go : (t v : Bool) → isLent tree cells ≡ t → n ≡ told t v .number → cells′ ≡ told t v .bytes → cells′ ≡ cells
+    go true true l e f = absurd (u e)
+    go true false l e f = f ∙ sym (lent-form tree cells l)
+    go false v l e f = f

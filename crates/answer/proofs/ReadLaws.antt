@@ -107,7 +107,7 @@ early-frame a s =
     (early-whole a (undouble false (drop 2 s)))
     (early-refused noPreamble (omega arith))
 
-early-sized : (bs : List ℕ) → Early (ifSized bs (received bs))
+pub early-sized : (bs : List ℕ) → Early (ifSized bs (received bs))
 unfolding ifSized sizeNumber
 early-sized bs = go (eqb (length bs) 0) (ltb maxData (length bs))
   where

@@ -56,14 +56,50 @@ abbrev pub serving : Call → Service
 serving k = serve (k .form) (k .least) (k .room) (k .string) (k .host) (k .tree) (k .cells)
 
 -- The three roads: request data, a serial string for the box's address, a datagram. A serial reply carries that address.
+abbrev pub dataCall : ℕ → List ℕ → Bool → List ℕ → List ℕ → Call
+dataCall room bs host tree cells =
+    record {
+      form = λ reply. reply;
+      least = roomData;
+      room = room;
+      string = ifSized bs (received bs);
+      host = host;
+      tree = tree;
+      cells = cells;
+    }
+
+abbrev pub serialCall : ℕ → ℕ → List ℕ → Bool → List ℕ → List ℕ → Call
+serialCall address room s host tree cells =
+    record {
+      form = frame address;
+      least = roomSerial;
+      room = room;
+      string = readFrame address s;
+      host = host;
+      tree = tree;
+      cells = cells;
+    }
+
+abbrev pub udpCall : ℕ → List ℕ → Bool → List ℕ → List ℕ → Call
+udpCall room s host tree cells =
+    record {
+      form = datagram;
+      least = roomUdp;
+      room = room;
+      string = readDatagram s;
+      host = host;
+      tree = tree;
+      cells = cells;
+    }
+
 abbrev pub serveData : ℕ → List ℕ → Bool → List ℕ → List ℕ → Service
-serveData room bs host tree cells = serve (λ reply. reply) roomData room (ifSized bs (received bs)) host tree cells
+serveData room bs host tree cells = serving (dataCall room bs host tree cells)
 
 abbrev pub serveSerial : ℕ → ℕ → List ℕ → Bool → List ℕ → List ℕ → Service
-serveSerial address room s host tree cells = serve (frame address) roomSerial room (readFrame address s) host tree cells
+serveSerial address room s host tree cells = serving (serialCall address room s host tree cells)
 
 abbrev pub serveUdp : ℕ → List ℕ → Bool → List ℕ → List ℕ → Service
-serveUdp room s host tree cells = serve datagram roomUdp room (readDatagram s) host tree cells
+serveUdp room s host tree cells = serving (udpCall room s host tree cells)
 
 -- What a serving call hands back and leaves: its number, the length of what it wrote, the action's property, every byte of the
 -- cells and of the output.

@@ -3,26 +3,17 @@ use native.Mathlib.Omega.{arith}
 use mathlib.Core.Path.{_≡_, refl, sym, ap, _∙_}
 use borrow.Author.Needs.{needs}
 use lib.ListN.{length}
-use Rattle.protocol.specs.Numbers.{done, roomData}
-use Rattle.protocol.specs.Frame.{received, ifSized}
+use Rattle.protocol.specs.Numbers.{done}
+use Rattle.protocol.specs.Frame.{received}
 use Rattle.protocol.specs.Request.{readRequest}
-use Rattle.answer.specs.Serve.{Call}
+use Rattle.answer.specs.Serve.{Call, dataCall}
 use Rattle.answer.proofs.ReadLaws.{sized-done, sized-refused, asked-is, asks}
 use Rattle.answer.proofs.ServeLaws.{turned, answerTo, Open, opened, serve-unlent, serve-refused, serve-answered, answered-as, as-data}
 use Rattle.answer.proofs.serve.serve_data.Statement.{statement}
 use Rattle.answer.proofs.serve.serve_data.Tie as tie
 
 abbrev call : tie.Start → Call
-call c =
-    record {
-      form = λ reply. reply;
-      least = roomData;
-      room = length (c .args .out .now);
-      string = ifSized (c .args .request .now) (received (c .args .request .now));
-      host = c .args .host;
-      tree = c .args .tree .now;
-      cells = c .args .cells .now;
-    }
+call c = dataCall (length (c .args .out .now)) (c .args .request .now) (c .args .host) (c .args .tree .now) (c .args .cells .now)
 
 abbrev start-of : tie.After-lent-number → tie.Start
 start-of c = c .before .before .before .before .before .before

@@ -3,27 +3,16 @@ use Prim.Native.Nat.{_≤_}
 use native.Mathlib.Omega.{arith}
 use borrow.Author.Needs.{needs}
 use lib.ListN.{length}
-use Rattle.protocol.specs.Numbers.{roomSerial}
-use Rattle.protocol.specs.Frame.{frame, readFrame}
 use Rattle.protocol.specs.Request.{readSerial}
 use Rattle.request.proofs.WriteLaws.{part-size}
-use Rattle.answer.specs.Serve.{Call}
+use Rattle.answer.specs.Serve.{Call, serialCall}
 use Rattle.answer.proofs.ReadLaws.{Read, early-frame, row-of-string, row-of-data}
 use Rattle.answer.proofs.ServeLaws.{turned, row-true, row-false, answerTo, Open, opened, serve-unlent, serve-refused, serve-answered, replies, answered-as, as-serial, reply-within}
 use Rattle.answer.proofs.serve.serve_serial.Statement.{statement}
 use Rattle.answer.proofs.serve.serve_serial.Tie as tie
 
 abbrev call : tie.Start → Call
-call c =
-    record {
-      form = frame (c .args .address);
-      least = roomSerial;
-      room = length (c .args .out .now);
-      string = readFrame (c .args .address) (c .args .s .now);
-      host = c .args .host;
-      tree = c .args .tree .now;
-      cells = c .args .cells .now;
-    }
+call c = serialCall (c .args .address) (length (c .args .out .now)) (c .args .s .now) (c .args .host) (c .args .tree .now) (c .args .cells .now)
 
 abbrev start-of : tie.After-lent-number → tie.Start
 start-of c = c .before .before .before .before .before .before

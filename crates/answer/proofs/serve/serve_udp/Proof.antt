@@ -3,27 +3,16 @@ use native.Mathlib.Omega.{arith}
 use mathlib.Core.Path.{ap, _∙_}
 use borrow.Author.Needs.{needs}
 use lib.ListN.{length, length-drop}
-use Rattle.protocol.specs.Numbers.{roomUdp}
-use Rattle.protocol.specs.Frame.{datagram, readDatagram}
 use Rattle.protocol.specs.Request.{readUdp}
 use Rattle.protocol.proofs.BufferLaws.{part-lent}
-use Rattle.answer.specs.Serve.{Call}
+use Rattle.answer.specs.Serve.{Call, udpCall}
 use Rattle.answer.proofs.ReadLaws.{Read, early-datagram, row-of-string, row-of-data}
 use Rattle.answer.proofs.ServeLaws.{turned, row-true, row-false, answerTo, Open, opened, serve-unlent, serve-refused, serve-answered, replies, answered-as, as-udp, front-short, reply-short}
 use Rattle.answer.proofs.serve.serve_udp.Statement.{statement}
 use Rattle.answer.proofs.serve.serve_udp.Tie as tie
 
 abbrev call : tie.Start → Call
-call c =
-    record {
-      form = datagram;
-      least = roomUdp;
-      room = length (c .args .out .now);
-      string = readDatagram (c .args .datagram .now);
-      host = c .args .host;
-      tree = c .args .tree .now;
-      cells = c .args .cells .now;
-    }
+call c = udpCall (length (c .args .out .now)) (c .args .datagram .now) (c .args .host) (c .args .tree .now) (c .args .cells .now)
 
 abbrev start-of : tie.After-lent-number → tie.Start
 start-of c = c .before .before .before .before .before .before
