@@ -2,17 +2,16 @@
 -- Assumes nothing.
 use Prim.Native.Nat.{ℕ, zero, suc, _<_, _≤_}
 use native.Mathlib.Omega.{arith}
-use mathlib.Core.Path.{_≡_, refl, sym, ap, subst, _∙_}
-use mathlib.Core.Bool.{Bool, true, false, cond, _&&_}
+use mathlib.Core.Path.{_≡_, refl, sym, ap, _∙_}
+use mathlib.Core.Bool.{Bool, true, false, cond}
 use mathlib.Core.List.{List, [], _∷_}
 use mathlib.Core.Option.{Option, none, some}
 use mathlib.Core.Logic.{_⊎_, inl, inr}
 use borrow.Author.Tests.{eqb-true, eqb-false, ltb-true, lt-ltb, le-ltb, eq-eqb}
-use lib.ListN.{length, set}
+use lib.ListN.{set}
 use lib.Dec.{eqb, ltb}
 use Rattle.protocol.specs.Numbers.{done, unsound, noRoom, disabled, badParameter, noReading, notSaved, NAK, DISABLED, opDetect, opNode, opRecord, opRead, saveFailed, wordEnd}
 use Rattle.protocol.specs.Bytes.{Bytes, every}
-use Rattle.protocol.specs.Frame.{Received}
 use Rattle.protocol.specs.Buffer.{over}
 use Rattle.protocol.specs.Request.{Request, pathFits, indexFits, fits, readRequest}
 use Rattle.protocol.specs.Tree.{Tree, Cell, isLive, propertyOf, nodeAt, propertyIn, cellIn, cellsSound, readable}
@@ -82,8 +81,8 @@ ends t cs true bs =
     if-case (Ends (readRequest bs .request)) (eqb (readRequest bs .number) done)
     (λ e. ends-perform t cs (readRequest bs .request))
     (λ e.
-      let row = readRequest-told bs .late (eqb-false (readRequest bs .number) done e) in
-      ends-refused (readRequest bs .request) cs (readRequest bs .number) (omega (arith, row .0)) (omega (arith, row .1)))
+    let row = readRequest-told bs .late (eqb-false (readRequest bs .number) done e) in
+    ends-refused (readRequest bs .request) cs (readRequest bs .number) (omega (arith, row .0)) (omega (arith, row .1)))
 
 -- A serving call is turned away with one of rows 1 to 8, or gives the answer.
 data Way (k : Call) : Type 0 where
@@ -137,109 +136,112 @@ pub data Refusal (k : Call) (n : ℕ) (out out′ : List ℕ) : Type 0 where
 
 module _ (k : Call) (early : Early (k .string)) {out cells′ out′ : List ℕ} {n size action : ℕ}
     (h : Serves (serving k) out n size action cells′ out′)
-    where
-  -- Demand 1: refusals 1 to 8 change no reading, setting or output byte.
-  pub early-refusal : 0 < n → n < disabled → (cells′ ≡ k .cells) × (out′ ≡ out)
-  early-refusal p q = go (way k early)
-    where
-      bad : Ends (readRequest (k .string .payload) .request) (answerTo k) → n ≡ answerTo k .number → ⊥
-      bad (accepted e) m = omega (arith, p, m, e)
-      bad (coded a b e) m = omega (arith, q, m, a)
-      bad (unsaved o e f g) m = omega (arith, q, m, e)
-      go : Way k → (cells′ ≡ k .cells) × (out′ ≡ out)
-      go (away m a b e) =
-          (h .cells ∙ ap (λ s. s .cells) e, h .bytes ∙ ap (λ s. over (s .written) out) e ∙ over-nil out)
-      go (answered l d e) =
-          absurd (bad (ends (seen (k .tree)) (cellsIn (k .cells)) (k .host) (k .string .payload)) (h .number ∙ ap (λ s. s .number) e))
+  where
+    -- Demand 1: refusals 1 to 8 change no reading, setting or output byte.
+    pub early-refusal : 0 < n → n < disabled → (cells′ ≡ k .cells) × (out′ ≡ out)
+    early-refusal p q = go (way k early)
+      where
+        bad : Ends (readRequest (k .string .payload) .request) (answerTo k) → n ≡ answerTo k .number → ⊥
+        bad (accepted e) m = omega (arith, p, m, e)
+        bad (coded a b e) m = omega (arith, q, m, a)
+        bad (unsaved o e f g) m = omega (arith, q, m, e)
 
-  -- Demand 1: refusals 9 to 13 change no reading or setting, and write exactly the reply of their row.
-  pub late-refusal : disabled ≤ n → (cells′ ≡ k .cells) × Refusal k n out out′
-  late-refusal p = go (way k early)
-    where
-      a : Answer
-      a = answerTo k
-      replied : n ≡ a .number → out′ ≡ over (k .form (a .reply)) out → Ends (readRequest (k .string .payload) .request) a → Refusal k n out out′
-      replied m w (accepted e) = absurd (omega (arith, p, m, e))
-      replied m w (coded b c e) =
-          code (omega (arith, m, c)) (w ∙ ap (λ d. over (k .form d) out) (e ∙ ap (λ i. refusalCode i ∷ []) (sym m)))
-      replied m w (unsaved o e f g) = not-saved o (m ∙ e) f (w ∙ ap (λ d. over (k .form d) out) g)
-      go : Way k → (cells′ ≡ k .cells) × Refusal k n out out′
-      go (away m b c e) = absurd (omega (arith, p, c, h .number ∙ ap (λ s. s .number) e))
-      go (answered l d e) =
-          let m : n ≡ a .number = h .number ∙ ap (λ s. s .number) e in
-          let kept : a .cells ≡ cellsIn (k .cells) =
-          refusal-keeps (seen (k .tree)) (cellsIn (k .cells)) (k .host) (k .string .payload) (λ z. omega (arith, p, m, z)) in
-          (
-            h .cells ∙ ap (λ s. s .cells) e ∙ ap cellsForm kept ∙ sym (lent-form (k .tree) (k .cells) l),
-            replied m (h .bytes ∙ ap (λ s. over (s .written) out) e) (ends (seen (k .tree)) (cellsIn (k .cells)) (k .host) (k .string .payload)),
-          )
+        go : Way k → (cells′ ≡ k .cells) × (out′ ≡ out)
+        go (away m a b e) =
+            (h .cells ∙ ap (λ s. s .cells) e, h .bytes ∙ ap (λ s. over (s .written) out) e ∙ over-nil out)
+        go (answered l d e) =
+            absurd (bad (ends (seen (k .tree)) (cellsIn (k .cells)) (k .host) (k .string .payload)) (h .number ∙ ap (λ s. s .number) e))
 
-  -- The cells afterwards, as they are read.
-  cells-after : Bytes (k .cells) → isLent (k .tree) (k .cells) ≡ true → serving k ≡ inForm (k .form) (answerTo k)
-      → cellsIn cells′ ≡ answerTo k .cells
-  cells-after all l e =
-      ap cellsIn (h .cells ∙ ap (λ s. s .cells) e)
-      ∙ cells-in-form (answerTo k .cells)
-      (in-width (seen (k .tree)) (cellsIn (k .cells)) (k .host) (k .string .payload) (cells-fit (k .cells) all))
+    -- Demand 1: refusals 9 to 13 change no reading or setting, and write exactly the reply of their row.
+    pub late-refusal : disabled ≤ n → (cells′ ≡ k .cells) × Refusal k n out out′
+    late-refusal p = go (way k early)
+      where
+        a : Answer
+        a = answerTo k
 
-  -- Demand 2: no request alters anything but the setting that an accepted write names.
-  pub others-kept : Bytes (k .cells) → (place : ℕ) → ((value : ℕ) → Saves (seen (k .tree)) (k .string .payload) place value → ⊥)
-      → cellIn (cellsIn cells′) place ≡ cellIn (cellsIn (k .cells)) place
-  others-kept all place u = go (way k early)
-    where
-      go : Way k → cellIn (cellsIn cells′) place ≡ cellIn (cellsIn (k .cells)) place
-      go (away m b c e) = ap (λ l. cellIn (cellsIn l) place) (h .cells ∙ ap (λ s. s .cells) e)
-      go (answered l d e) =
-          ap (λ cs. cellIn cs place) (cells-after all l e)
-          ∙ others-stay (seen (k .tree)) (cellsIn (k .cells)) (k .host) (k .string .payload) place u
+        replied : n ≡ a .number → out′ ≡ over (k .form (a .reply)) out → Ends (readRequest (k .string .payload) .request) a → Refusal k n out out′
+        replied m w (accepted e) = absurd (omega (arith, p, m, e))
+        replied m w (coded b c e) =
+            code (omega (arith, m, c)) (w ∙ ap (λ d. over (k .form d) out) (e ∙ ap (λ i. refusalCode i ∷ []) (sym m)))
+        replied m w (unsaved o e f g) = not-saved o (m ∙ e) f (w ∙ ap (λ d. over (k .form d) out) g)
 
-  -- Demand 2: an accepted write is done, and the setting holds the number sent.
-  pub write-kept : Bytes (k .cells) → Open k → k .string .number ≡ done → k .host ≡ true → (place value : ℕ)
-      → Saves (seen (k .tree)) (k .string .payload) place value → (n ≡ done) × (cellIn (cellsIn cells′) place .word ≡ value)
-  write-kept all o good on place value s =
-      let t : Tree = seen (k .tree) in
-      let cs : List Cell = cellsIn (k .cells) in
-      let bs : List ℕ = k .string .payload in
-      let e : serving k ≡ inForm (k .form) (answerTo k) =
-      serve-by k true false true (o .lent) (le-ltb (k .room) (k .least) (o .roomy)) (eq-eqb (k .string .number) done good) in
-      let is : answerTo k ≡ answer t cs true bs = ap (λ b. answer t cs b bs) on in
-      (
-        h .number ∙ ap (λ w. w .number) e ∙ ap (λ a. a .number) (is ∙ write-accepted t cs bs place value s) ∙ saved-done cs place (s .request),
-        ap (λ l. cellIn l place .word) (cells-after all (o .lent) e ∙ ap (λ a. a .cells) is)
-        ∙ write-holds t cs bs place value (cells-sound-in (k .tree) (k .cells) all (o .lent)) s,
-      )
+        go : Way k → (cells′ ≡ k .cells) × Refusal k n out out′
+        go (away m b c e) = absurd (omega (arith, p, c, h .number ∙ ap (λ s. s .number) e))
+        go (answered l d e) =
+            let m : n ≡ a .number = h .number ∙ ap (λ s. s .number) e in
+            let kept : a .cells ≡ cellsIn (k .cells) =
+            refusal-keeps (seen (k .tree)) (cellsIn (k .cells)) (k .host) (k .string .payload) (λ z. omega (arith, p, m, z)) in (
+              h .cells ∙ ap (λ s. s .cells) e ∙ ap cellsForm kept ∙ sym (lent-form (k .tree) (k .cells) l),
+              replied m (h .bytes ∙ ap (λ s. over (s .written) out) e) (ends (seen (k .tree)) (cellsIn (k .cells)) (k .host) (k .string .payload)),
+            )
 
-  -- Demand 2: reading a live probe that is not ready never yields a number: nothing is written, or a code alone.
-  pub open-probe-silent : (r : Request) (place : ℕ) → readRequest (k .string .payload) ≡ record { number = done; request = r } → r .op ≡ opRead
-      → Finds (seen (k .tree)) r place → isLive (propertyIn (seen (k .tree)) place) ≡ true → cellIn (cellsIn (k .cells)) place .ready ≡ false
-      → (n ≡ done → ⊥) × ((out′ ≡ out) ⊎ ((out′ ≡ over (k .form (DISABLED ∷ [])) out) ⊎ (out′ ≡ over (k .form (NAK ∷ [])) out)))
-  open-probe-silent r place asks op f live unready = go (way k early)
-    where
-      t : Tree
-      t = seen (k .tree)
-      cs : List Cell
-      cs = cellsIn (k .cells)
-      bs : List ℕ
-      bs = k .string .payload
-      host-case : (b : Bool) → (answer t cs b bs ≡ plain cs disabled (DISABLED ∷ [])) ⊎ (answer t cs b bs ≡ plain cs noReading (NAK ∷ []))
-      host-case true = inr (open-probe t cs bs r place asks op f live unready)
-      host-case false = inl (host-off t cs bs)
-      told : serving k ≡ inForm (k .form) (answerTo k) → (answerTo k ≡ plain cs disabled (DISABLED ∷ [])) ⊎ (answerTo k ≡ plain cs noReading (NAK ∷ []))
-          → (n ≡ done → ⊥) × ((out′ ≡ out) ⊎ ((out′ ≡ over (k .form (DISABLED ∷ [])) out) ⊎ (out′ ≡ over (k .form (NAK ∷ [])) out)))
-      told e (inl a) =
-          (
-            λ z. omega (arith, z, h .number ∙ ap (λ s. s .number) e ∙ ap (λ x. x .number) a),
-            inr (inl (h .bytes ∙ ap (λ s. over (s .written) out) e ∙ ap (λ x. over (k .form (x .reply)) out) a)),
-          )
-      told e (inr a) =
-          (
-            λ z. omega (arith, z, h .number ∙ ap (λ s. s .number) e ∙ ap (λ x. x .number) a),
-            inr (inr (h .bytes ∙ ap (λ s. over (s .written) out) e ∙ ap (λ x. over (k .form (x .reply)) out) a)),
-          )
-      go : Way k → (n ≡ done → ⊥) × ((out′ ≡ out) ⊎ ((out′ ≡ over (k .form (DISABLED ∷ [])) out) ⊎ (out′ ≡ over (k .form (NAK ∷ [])) out)))
-      go (away m b c e) =
-          (
-            λ z. omega (arith, z, b, h .number ∙ ap (λ s. s .number) e),
-            inl (h .bytes ∙ ap (λ s. over (s .written) out) e ∙ over-nil out),
-          )
-      go (answered l d e) = told e (host-case (k .host))
+    -- The cells afterwards, as they are read.
+    cells-after : Bytes (k .cells) → isLent (k .tree) (k .cells) ≡ true → serving k ≡ inForm (k .form) (answerTo k)
+        → cellsIn cells′ ≡ answerTo k .cells
+    cells-after all l e =
+        ap cellsIn (h .cells ∙ ap (λ s. s .cells) e)
+        ∙ cells-in-form (answerTo k .cells)
+        (in-width (seen (k .tree)) (cellsIn (k .cells)) (k .host) (k .string .payload) (cells-fit (k .cells) all))
+
+    -- Demand 2: no request alters anything but the setting that an accepted write names.
+    pub others-kept : Bytes (k .cells) → (place : ℕ) → ((value : ℕ) → Saves (seen (k .tree)) (k .string .payload) place value → ⊥)
+        → cellIn (cellsIn cells′) place ≡ cellIn (cellsIn (k .cells)) place
+    others-kept all place u = go (way k early)
+      where
+        go : Way k → cellIn (cellsIn cells′) place ≡ cellIn (cellsIn (k .cells)) place
+        go (away m b c e) = ap (λ l. cellIn (cellsIn l) place) (h .cells ∙ ap (λ s. s .cells) e)
+        go (answered l d e) =
+            ap (λ cs. cellIn cs place) (cells-after all l e)
+            ∙ others-stay (seen (k .tree)) (cellsIn (k .cells)) (k .host) (k .string .payload) place u
+
+    -- Demand 2: an accepted write is done, and the setting holds the number sent.
+    pub write-kept : Bytes (k .cells) → Open k → k .string .number ≡ done → k .host ≡ true → (place value : ℕ)
+        → Saves (seen (k .tree)) (k .string .payload) place value → (n ≡ done) × (cellIn (cellsIn cells′) place .word ≡ value)
+    write-kept all o good on place value s =
+        let t : Tree = seen (k .tree) in
+        let cs : List Cell = cellsIn (k .cells) in
+        let bs : List ℕ = k .string .payload in
+        let e : serving k ≡ inForm (k .form) (answerTo k) =
+        serve-by k true false true (o .lent) (le-ltb (k .room) (k .least) (o .roomy)) (eq-eqb (k .string .number) done good) in
+        let is : answerTo k ≡ answer t cs true bs = ap (λ b. answer t cs b bs) on in (
+          h .number ∙ ap (λ w. w .number) e ∙ ap (λ a. a .number) (is ∙ write-accepted t cs bs place value s) ∙ saved-done cs place (s .request),
+          ap (λ l. cellIn l place .word) (cells-after all (o .lent) e ∙ ap (λ a. a .cells) is)
+              ∙ write-holds t cs bs place value (cells-sound-in (k .tree) (k .cells) all (o .lent)) s,
+        )
+
+    -- Demand 2: reading a live probe that is not ready never yields a number: nothing is written, or a code alone.
+    pub open-probe-silent : (r : Request) (place : ℕ) → readRequest (k .string .payload) ≡ record { number = done; request = r } → r .op ≡ opRead
+        → Finds (seen (k .tree)) r place → isLive (propertyIn (seen (k .tree)) place) ≡ true → cellIn (cellsIn (k .cells)) place .ready ≡ false
+        → (n ≡ done → ⊥) × ((out′ ≡ out) ⊎ ((out′ ≡ over (k .form (DISABLED ∷ [])) out) ⊎ (out′ ≡ over (k .form (NAK ∷ [])) out)))
+    open-probe-silent r place asks op f live unready = go (way k early)
+      where
+        t : Tree
+        t = seen (k .tree)
+
+        cs : List Cell
+        cs = cellsIn (k .cells)
+
+        bs : List ℕ
+        bs = k .string .payload
+
+        host-case : (b : Bool) → (answer t cs b bs ≡ plain cs disabled (DISABLED ∷ [])) ⊎ (answer t cs b bs ≡ plain cs noReading (NAK ∷ []))
+        host-case true = inr (open-probe t cs bs r place asks op f live unready)
+        host-case false = inl (host-off t cs bs)
+
+        told : serving k ≡ inForm (k .form) (answerTo k) → (answerTo k ≡ plain cs disabled (DISABLED ∷ [])) ⊎ (answerTo k ≡ plain cs noReading (NAK ∷ []))
+            → (n ≡ done → ⊥) × ((out′ ≡ out) ⊎ ((out′ ≡ over (k .form (DISABLED ∷ [])) out) ⊎ (out′ ≡ over (k .form (NAK ∷ [])) out)))
+        told e (inl a) = (
+          λ z. omega (arith, z, h .number ∙ ap (λ s. s .number) e ∙ ap (λ x. x .number) a),
+          inr (inl (h .bytes ∙ ap (λ s. over (s .written) out) e ∙ ap (λ x. over (k .form (x .reply)) out) a)),
+        )
+        told e (inr a) = (
+          λ z. omega (arith, z, h .number ∙ ap (λ s. s .number) e ∙ ap (λ x. x .number) a),
+          inr (inr (h .bytes ∙ ap (λ s. over (s .written) out) e ∙ ap (λ x. over (k .form (x .reply)) out) a)),
+        )
+
+        go : Way k → (n ≡ done → ⊥) × ((out′ ≡ out) ⊎ ((out′ ≡ over (k .form (DISABLED ∷ [])) out) ⊎ (out′ ≡ over (k .form (NAK ∷ [])) out)))
+        go (away m b c e) = (
+          λ z. omega (arith, z, b, h .number ∙ ap (λ s. s .number) e),
+          inl (h .bytes ∙ ap (λ s. over (s .written) out) e ∙ over-nil out),
+        )
+        go (answered l d e) = told e (host-case (k .host))

@@ -4,7 +4,7 @@ use native.Mathlib.Omega.{arith}
 use mathlib.Core.Path.{_≡_, sym, _∙_}
 use mathlib.Core.Option.{some}
 use borrow.Author.Needs.{needs}
-use lib.ListN.{length, length-map}
+use lib.ListN.{length}
 use Rattle.protocol.specs.Tree.{nodeAt}
 use Rattle.request.proofs.WriteLaws.{part-size}
 use Rattle.tree.specs.Seen.{seen}
@@ -12,6 +12,7 @@ use Rattle.tree.specs.Cells.{cellsForm, cellsIn}
 use Rattle.tree.proofs.CellLaws.{lent-form}
 use Rattle.tree.proofs.FoundLaws.{found-at, found-none}
 use Rattle.answer.specs.Reply.{requestIn}
+use Rattle.answer.proofs.ReplyLaws.{path-room}
 use Rattle.answer.proofs.AnswerLaws.{refused, replied, answers-as, is-detect, no-node, at-node}
 use Rattle.answer.proofs.answer.perform.Statement.{statement}
 use Rattle.answer.proofs.answer.perform.Tie as tie
@@ -25,8 +26,7 @@ lent c = lent-form (start-of c .args .tree .now) (start-of c .args .cells .now) 
 
 -- The path lies within its array.
 path-fits : (c : tie.Start) → c .args .asked .len ≤ length (c .args .asked .path)
-path-fits c =
-    omega (arith, c .good .1 .1 .0 .1 .1 .1 .1 .0 .1 .0 .1, length-map (c .args .asked .path) (λ b. b), c .pre .1 .1 .short)
+path-fits c = path-room (c .args .asked .path) (c .good .1 .1 .0 .1 .1 .1 .1 .0 .1 .0 .1) (c .pre .1 .1 .short)
 
 -- The node that was found.
 found : (c : tie.After-node2)

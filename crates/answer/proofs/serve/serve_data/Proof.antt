@@ -1,14 +1,14 @@
 -- `answer::serve::serve_data` meets its contract. Assumes nothing.
 use native.Mathlib.Omega.{arith}
-use mathlib.Core.Path.{_≡_, refl, sym, ap, _∙_}
+use mathlib.Core.Path.{_≡_, sym, ap, _∙_}
 use borrow.Author.Needs.{needs}
 use lib.ListN.{length}
-use Rattle.protocol.specs.Numbers.{done, roomData}
+use Rattle.protocol.specs.Numbers.{roomData}
 use Rattle.protocol.specs.Frame.{received, ifSized}
 use Rattle.protocol.specs.Request.{readRequest}
 use Rattle.answer.specs.Serve.{Call}
 use Rattle.answer.proofs.ReadLaws.{sized-done, sized-refused, asked-is, asks}
-use Rattle.answer.proofs.ServeLaws.{turned, answerTo, Open, opened, serve-unlent, serve-refused, serve-answered, answered-as, as-data}
+use Rattle.answer.proofs.ServeLaws.{answerTo, Open, opened, serve-unlent, serve-refused, serve-answered, answered-as, as-data}
 use Rattle.answer.proofs.serve.serve_data.Statement.{statement}
 use Rattle.answer.proofs.serve.serve_data.Tie as tie
 
@@ -49,8 +49,7 @@ returns : tie.Need-returns
 returns c =
     let then1 = c .before in
     let start = start-of (then1 .before) in
-    turned (serve-unlent (call start) (then1 .before .lent-number .ensures) (then1 .if1 .taken) (start .args .out .now))
-    (c .turned-away .ensures .0) (c .turned-away .ensures .1 .0) (c .turned-away .ensures .1 .1)
+    serve-unlent (call start) (then1 .before .lent-number .ensures) (then1 .if1 .taken) (c .turned-away .ensures) (start .args .out .now)
 
 size-number-requires : tie.Need-size-number-requires
 size-number-requires c κs = search needs
@@ -67,8 +66,7 @@ returns-2 c =
     let sized = then2 .before in
     let start = start-of (sized .before .before) in
     let bad = sized-refused (start .args .request .now) (sized .size-number .ensures) (then2 .if2 .taken) in
-    turned (serve-refused (call start) (unrefused (sized .before)) (bad .0) (bad .1) (start .args .out .now))
-    (c .turned-away2 .ensures .0) (c .turned-away2 .ensures .1 .0) (c .turned-away2 .ensures .1 .1)
+    serve-refused (call start) (unrefused (sized .before)) (bad .0) (bad .1) (c .turned-away2 .ensures) (start .args .out .now)
 
 read-data-requires : tie.Need-read-data-requires
 read-data-requires c κs = search needs
@@ -78,11 +76,12 @@ answer-asked-requires c κs =
     let read = c .before in
     let else2 = read .before .before in
     let else1 = else2 .before .before in
-    let start = start-of (else1 .before) in
-    (
+    let start = start-of (else1 .before) in (
       omega (arith, unrefused else1 .roomy),
-      (unrefused else1 .lent,
-      asks (start .args .request .now) (asked-is _ (read .read-data .ensures)) (read .read-data .ensures .len)),
+      (
+        unrefused else1 .lent,
+        asks (start .args .request .now) (asked-is _ (read .read-data .ensures)) (read .read-data .ensures .len),
+      ),
     )
 
 same-length-3 : tie.Need-same-length-3
