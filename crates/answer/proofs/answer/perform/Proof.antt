@@ -48,7 +48,9 @@ returns : tie.Need-returns
 returns c =
     let put = c .before .before in
     let test = put .before .before in
-    answers-as (is-detect _ _ _ (test .if1 .taken)) (replied (lent (test .before)) (put .put-code .ensures))
+    let start = start-of (test .before) in
+    answers-as (is-detect (seen (start .args .tree .now)) (cellsIn (start .args .cells .now)) (requestIn (start .args .asked)) (test .if1 .taken))
+    (replied (lent (test .before)) (put .put-code .ensures))
 
 array-share-prefix-path : tie.Need-array-share-prefix-path
 array-share-prefix-path c = path-fits (start-of (c .before .before))
@@ -80,7 +82,7 @@ returns-2 c =
     let test = find .before .before .before in
     let start = start-of (test .before) in
     answers-as
-    (no-node _ _ _ (test .if1 .left)
+    (no-node (seen (start .args .tree .now)) (cellsIn (start .args .cells .now)) (requestIn (start .args .asked)) (test .if1 .left)
     (found-none (nodeAt (seen (start .args .tree .now)) (requestIn (start .args .asked) .path))
     (sym (told .enum-told .given .1) ∙ find .node .ensures)))
     (refused (lent (test .before)) (c .before .before .refuse .ensures))
@@ -101,7 +103,10 @@ returns-3 : tie.Need-returns-3
 returns-3 c =
     let answered = c .before .before .before .before in
     let known = answered .before .before .before .before in
-    answers-as (at-node _ _ _ (known .before .before .before .before .before .if1 .left) (found known)) (answered .on-node .ensures)
+    let test = known .before .before .before .before .before in
+    let start = start-of (test .before) in
+    answers-as (at-node (seen (start .args .tree .now)) (cellsIn (start .args .cells .now)) (requestIn (start .args .asked)) (test .if1 .left) (found known))
+    (answered .on-node .ensures)
 
 pub perform-spec : {M : Type 1} → statement M
 perform-spec =
