@@ -27,7 +27,7 @@ use Rattle.answer.specs.Reply.{actionNumber, answerAsked, Refuses, Answe
 
 -- Lent bytes that passed the check: a place fits a byte, and the replies that hold texts are short.
 module _ (tree cells : List ℕ) (lent : isLent tree cells ≡ true) where
-  lent-sound : sound (seen tree) ≡ true
+  pub lent-sound : sound (seen tree) ≡ true
   unfolding isLent isTree
   lent-sound = and-right (same tree (formOf (seen tree))) _ (and-left (isTree tree) _ lent)
 

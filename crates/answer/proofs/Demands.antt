@@ -2,7 +2,7 @@
 -- Assumes nothing.
 use Prim.Native.Nat.{ℕ, zero, suc, _<_, _≤_}
 use native.Mathlib.Omega.{arith}
-use mathlib.Core.Path.{_≡_, refl, sym, ap, subst, _∙_}
+use mathlib.Core.Path.{_≡_, refl, sym, ap, _∙_}
 use mathlib.Core.Bool.{Bool, true, false, cond, _&&_}
 use mathlib.Core.List.{List, [], _∷_}
 use mathlib.Core.Option.{Option, none, some}
@@ -12,7 +12,6 @@ use lib.ListN.{length, set}
 use lib.Dec.{eqb, ltb}
 use Rattle.protocol.specs.Numbers.{done, unsound, noRoom, disabled, badParameter, noReading, notSaved, notLive, NAK, DISABLED, opDetect, opNode, opRecord, opRead, saveFailed, wordEnd}
 use Rattle.protocol.specs.Bytes.{Bytes, every}
-use Rattle.protocol.specs.Frame.{Received}
 use Rattle.protocol.specs.Buffer.{over}
 use Rattle.protocol.specs.Request.{Request, pathFits, indexFits, fits, readRequest}
 use Rattle.protocol.specs.Tree.{Tree, Cell, isLive, propertyOf, nodeAt, propertyIn, cellIn, cellsSound, readable, Posting, posted, post}

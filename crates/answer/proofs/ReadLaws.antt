@@ -2,11 +2,11 @@
 -- Assumes nothing.
 use Prim.Native.Nat.{ℕ, suc, _-_, _<_, _≤_}
 use native.Mathlib.Omega.{arith}
-use mathlib.Core.Path.{_≡_, refl, sym, ap, ap₂, subst, _∙_}
+use mathlib.Core.Path.{_≡_, refl, sym, ap, ap₂, _∙_}
 use mathlib.Core.Bool.{Bool, true, false, cond, _&&_}
-use mathlib.Core.List.{List, [], _∷_, _++_}
+use mathlib.Core.List.{List, [], _∷_}
 use mathlib.Core.Option.{Option, none, some}
-use borrow.Author.Tests.{eqb-true, eqb-false, leb-true, eq-eqb, ne-eqb}
+use borrow.Author.Tests.{eqb-true, eqb-false, leb-true, ltb-true, ltb-false, lt-ltb, eq-eqb, ne-eqb}
 use lib.ListN.{length, getD, take, drop, replicate}
 use lib.Seq.{take-at}
 use lib.Dec.{eqb, leb, ltb}
@@ -14,48 +14,40 @@ use Rattle.protocol.specs.Numbers.{done, disabled, badParameter, unknownCommand
 use Rattle.protocol.specs.Frame.{Received, received, refused, sizeNumber, ifSized, judge, judgeWhole, undouble, readFrame, readDatagram, fourZeros, checksum, addressIn, dataIn, checksumIn}
 use Rattle.protocol.specs.Buffer.{over}
 use Rattle.protocol.specs.Request.{Request, Asked, allowance, Allowed, asksIndex, asksValue, fits, declined, askedIf, beforeZero, readIndexed, readValued, readShape, readRequest, readPayload}
-use Rattle.protocol.proofs.TestLaws.{and-right, if-both, if-case}
+use Rattle.protocol.proofs.TestLaws.{and-left, and-right, if-both, if-case}
 use Rattle.protocol.proofs.AnswerLaws.{readRequest-fits}
 use Rattle.protocol.proofs.RequestLaws.{allowed, path-most, readPayload-by}
 use Rattle.request.specs.declared.Asked as declared
 use Rattle.request.specs.Asked.{padded, AskedIs}
-use Rattle.answer.specs.Reply.{requestIn, askedIn, Asks}
+use Rattle.answer.specs.Reply.{askedIn, Asks}
 
--- A reading of data: with 0 its request has an op, and its other numbers come after 9.
-record Reads (op : ℕ) (a : Asked) : Type 0 where
-  is : a .number ≡ done → a .request .op ≡ op
-  late : (a .number ≡ done → ⊥) → (disabled < a .number) × (a .number ≤ badParameter)
-
-reads-declined : (op n : ℕ) → disabled < n → n ≤ badParameter → Reads op (declined n)
-reads-declined op n h k = record { is = λ e. absurd (omega (arith, h, e)); late = λ u. (h, k) }
-
-reads-asked : (r : Request) → Reads (r .op) (askedIf r)
-unfolding askedIf
-reads-asked r =
-    if-both (Reads (r .op)) (fits r) (record { is = λ e. refl; late = λ u. absurd (u refl) }) (reads-declined (r .op) badParameter (omega arith) (omega arith))
-
-reads-indexed : (op value : ℕ) (bs : List ℕ) → Reads op (readIndexed op value bs)
-unfolding readIndexed
-reads-indexed op value bs =
-    reads-asked (record { op = op; path = take (length bs - 1) bs; index = getD bs (length bs - 1) 0; value = value })
-
-reads-shape : (op : ℕ) (bs : List ℕ) → Reads op (readShape op bs)
-unfolding readShape readValued
-reads-shape op bs =
-    if-both (Reads op) (asksValue op)
-    (if-both (Reads op) (eqb (length (drop (suc (beforeZero bs)) bs)) 4)
-    (reads-indexed op _ (take (beforeZero bs) bs))
-    (reads-declined op badParameter (omega arith) (omega arith)))
-    (if-both (Reads op) (asksIndex op)
-    (reads-indexed op 0 bs)
-    (reads-asked (record { op = op; path = bs; index = 0; value = 0 })))
-
+-- A reading of data: with 0 its request has one of the ops, and its other numbers come after 9.
 pub record Told (a : Asked) : Type 0 where
   pub op : a .number ≡ done → a .request .op ≤ opWriteExtended
   pub late : (a .number ≡ done → ⊥) → (disabled < a .number) × (a .number ≤ badParameter)
 
 told-declined : (n : ℕ) → disabled < n → n ≤ badParameter → Told (declined n)
 told-declined n h k = record { op = λ e. absurd (omega (arith, h, e)); late = λ u. (h, k) }
+
+told-asked : (r : Request) → r .op ≤ opWriteExtended → Told (askedIf r)
+unfolding askedIf
+told-asked r h =
+    if-both Told (fits r) (record { op = λ e. h; late = λ u. absurd (u refl) }) (told-declined badParameter (omega arith) (omega arith))
+
+module _ (op : ℕ) (h : op ≤ opWriteExtended) where
+  told-indexed : (value : ℕ) (bs : List ℕ) → Told (readIndexed op value bs)
+  unfolding readIndexed
+  told-indexed value bs =
+      told-asked (record { op = op; path = take (length bs - 1) bs; index = getD bs (length bs - 1) 0; value = value }) h
+
+  told-shape : (bs : List ℕ) → Told (readShape op bs)
+  unfolding readShape readValued
+  told-shape bs =
+      if-both Told (asksValue op)
+      (if-both Told (eqb (length (drop (suc (beforeZero bs)) bs)) 4)
+      (told-indexed _ (take (beforeZero bs) bs))
+      (told-declined badParameter (omega arith) (omega arith)))
+      (if-both Told (asksIndex op) (told-indexed 0 bs) (told-asked (record { op = op; path = bs; index = 0; value = 0 }) h))
 
 pub readRequest-told : (bs : List ℕ) → Told (readRequest bs)
 unfolding readRequest
@@ -64,15 +56,10 @@ readRequest-told (c ∷ []) =
     if-both Told (eqb c PDI) (told-declined badParameter (omega arith) (omega arith)) (told-declined unknownCommand (omega arith) (omega arith))
 readRequest-told (c ∷ op ∷ bs) =
     if-case Told (eqb c PDI && leb op opWriteExtended)
-    (λ e.
-    let r : Reads op (readShape op bs) = reads-shape op bs in
-    record {
-      op = λ d. omega (arith, r .is d, leb-true op opWriteExtended (and-right (eqb c PDI) _ e));
-      late = r .late;
-    })
+    (λ e. told-shape op (leb-true op opWriteExtended (and-right (eqb c PDI) _ e)) bs)
     (λ e. told-declined unknownCommand (omega arith) (omega arith))
 
-pub readRequest-allowed : (bs : List ℕ) → readRequest bs .number ≡ done → Allowed (readRequest bs .request)
+readRequest-allowed : (bs : List ℕ) → readRequest bs .number ≡ done → Allowed (readRequest bs .request)
 readRequest-allowed bs h =
     allowed (readRequest bs .request) (record { op = readRequest-told bs .op h; rest = readRequest-fits bs .fit h })
 
@@ -160,16 +147,23 @@ module _ (r : Received) (early : Early r) {x : declared.Asked} (h : AskedIs (rea
   payload-bad : (r .number ≡ done → ⊥) → readPayload r ≡ declined (r .number)
   payload-bad u = readPayload-by r false (ne-eqb (r .number) done u)
 
-  pub row-of-string : 0 < x .number → x .number < disabled → Refused r x
-  row-of-string p q =
+  pub row-of-string : {t : Bool} → t ≡ (ltb 0 (x .number) && ltb (x .number) disabled) → t ≡ true → Refused r x
+  row-of-string is told =
+      let both : (ltb 0 (x .number) && ltb (x .number) disabled) ≡ true = sym is ∙ told in
+      let p : 0 < x .number = ltb-true 0 (x .number) (and-left (ltb 0 (x .number)) _ both) in
+      let q : x .number < disabled = ltb-true (x .number) disabled (and-right (ltb 0 (x .number)) _ both) in
       let bad : r .number ≡ done → ⊥ = λ e.
       let same : x .number ≡ readRequest (r .payload) .number = h .number ∙ ap (λ a. a .number) (payload-done e) in
       omega (arith, p, q, same, readRequest-told (r .payload) .late (λ d. omega (arith, p, same, d)) .0) in
       record { number = h .number ∙ ap (λ a. a .number) (payload-bad bad); bad = bad }
 
-  pub row-of-data : (0 < x .number → disabled ≤ x .number) → Read r x
-  row-of-data u = go (eqb (r .number) done) refl
+  pub row-of-data : {t : Bool} → t ≡ (ltb 0 (x .number) && ltb (x .number) disabled) → t ≡ false → Read r x
+  row-of-data is told = go (eqb (r .number) done) refl
     where
+      late : 0 < x .number → disabled ≤ x .number
+      late p =
+          ltb-false (x .number) disabled (sym (ap (λ b. b && ltb (x .number) disabled) (lt-ltb 0 (x .number) p)) ∙ sym is ∙ told)
+
       go : (t : Bool) → eqb (r .number) done ≡ t → Read r x
       go true e =
           let good : r .number ≡ done = eqb-true (r .number) done e in
@@ -182,7 +176,7 @@ module _ (r : Received) (early : Early r) {x : declared.Asked} (h : AskedIs (rea
       go false e =
           let same : x .number ≡ r .number = h .number ∙ ap (λ a. a .number) (payload-bad (eqb-false (r .number) done e)) in
           let some-row : 0 < x .number = omega (arith, same, eqb-false (r .number) done e) in
-          absurd (omega (arith, same, early .early, u some-row))
+          absurd (omega (arith, same, early .early, late some-row))
 
 -- Data of a good size, and of another.
 pub sized-done : (bs : List ℕ) → sizeNumber (length bs) ≡ done → ifSized bs (received bs) ≡ received bs

@@ -1,53 +1,38 @@
 -- Serving calls, row by row, and their replies in the form of each road.
 -- Assumes nothing.
-use Prim.Native.Nat.{ℕ, _+_, _-_, _<_, _≤_}
+use Prim.Native.Nat.{ℕ, _+_, _-_, _≤_}
 use native.Mathlib.Omega.{arith}
 use native.Mathlib.Nat.{zero-add}
-use mathlib.Core.Path.{_≡_, refl, sym, ap, ap₂, subst, _∙_}
-use mathlib.Core.Bool.{Bool, true, false, cond, _&&_}
-use mathlib.Core.List.{List, [], _∷_, _++_}
-use mathlib.Core.Option.{Option, none, some}
+use mathlib.Core.Path.{_≡_, refl, sym, ap, subst, _∙_}
+use mathlib.Core.Bool.{Bool, true, false, cond}
+use mathlib.Core.List.{List, [], _∷_}
 use borrow.Rule.Slice.PartMut.{putMid}
-use borrow.Author.Tests.{ltb-true, ltb-false, lt-ltb, le-ltb, eq-eqb, ne-eqb}
+use borrow.Author.Tests.{ltb-false, le-ltb, eq-eqb, ne-eqb}
 use lib.ListN.{length, take, drop, length-append, length-take}
 use lib.Seq.{length-take-le}
 use lib.Dec.{eqb, ltb}
-use Rattle.protocol.specs.Numbers.{done, unsound, noRoom, disabled, roomData, roomSerial, roomUdp}
-use Rattle.protocol.specs.Frame.{Received, received, Sized, frame, datagram, ifRoom, writeFrame}
-use Rattle.protocol.specs.Buffer.{over, fitting, Put, Emits}
+use Rattle.protocol.specs.Numbers.{done, unsound, noRoom, roomSerial}
+use Rattle.protocol.specs.Frame.{Sized, frame, datagram, ifRoom, writeFrame}
+use Rattle.protocol.specs.Buffer.{fitting, Put, Emits}
 use Rattle.protocol.specs.Request.{Asked, readRequest}
-use Rattle.protocol.specs.Tree.{Tree, Cell, sound}
+use Rattle.protocol.specs.Tree.{Tree, Cell}
 use Rattle.protocol.specs.Answer.{Answer, answer}
-use Rattle.protocol.proofs.TestLaws.{and-left, and-right}
 use Rattle.protocol.proofs.BufferLaws.{over-put, over-nil, put-fits, put-room, part-back}
 use Rattle.protocol.proofs.AnswerLaws.{reply-sized}
 use Rattle.frame.proofs.UdpLaws.{emits-datagram}
 use Rattle.request.proofs.WriteLaws.{put-front, emits-formed}
-use Rattle.tree.specs.Seen.{seen, same, isTree}
-use Rattle.tree.specs.Form.{formOf}
-use Rattle.tree.specs.Cells.{cellsForm, cellsIn, hasCells}
+use Rattle.tree.specs.Seen.{seen}
+use Rattle.tree.specs.Cells.{cellsIn}
 use Rattle.tree.specs.Lent.{isLent, lentNumber}
-use Rattle.answer.specs.Reply.{actionNumber, answerAsked, Answers}
-use Rattle.answer.specs.Serve.{Service, turnedAway, inForm, serve, Call, serving, Serves}
+use Rattle.answer.specs.Reply.{answerAsked, Answers}
+use Rattle.answer.proofs.AnswerLaws.{lent-sound}
+use Rattle.answer.specs.Serve.{turnedAway, inForm, serve, Call, serving, Serves}
 
 -- What is read, answered, is its data answered.
 answered-data : (t : Tree) (cs : List Cell) (host : Bool) (bs : List ℕ) → answerAsked t cs host (readRequest bs) ≡ answer t cs host bs
 unfolding answerAsked answer
 answered-data t cs true bs = refl
 answered-data t cs false bs = refl
-
--- A lent tree is sound, so that every reply can be framed.
-pub lent-sound : (tree cells : List ℕ) → isLent tree cells ≡ true → sound (seen tree) ≡ true
-unfolding isLent isTree
-lent-sound tree cells h = and-right (same tree (formOf (seen tree))) _ (and-left (isTree tree) _ h)
-
--- Nothing written, no cell changed.
-pub away : (cells out : List ℕ) (n : ℕ) → Serves (turnedAway cells n) out n 0 255 cells out
-away cells out n = record { number = refl; len = refl; acts = refl; cells = refl; bytes = sym (over-nil out) }
-
-pub turned : {w : Service} {out cells′ out′ : List ℕ} {n m len action : ℕ} → Serves w out n 0 255 cells′ out′ → m ≡ n → len ≡ 0 → action ≡ 255
-    → Serves w out m len action cells′ out′
-turned s e f g = record { number = e ∙ s .number; len = f ∙ s .len; acts = g ∙ s .acts; cells = s .cells; bytes = s .bytes }
 
 -- Rows 1 and 8 by the check and the room.
 module _ (tree cells : List ℕ) (room least : ℕ) {n : ℕ} (e : n ≡ lentNumber tree cells) where
@@ -62,21 +47,13 @@ module _ (tree cells : List ℕ) (room least : ℕ) {n : ℕ} (e : n ≡ lentNum
       go true h = absurd (u (row-by true h))
       go false h = refl
 
-  pub row-lent : n ≡ done → cond (ltb room least) noRoom done ≡ cond (isLent tree cells) (cond (ltb room least) noRoom done) unsound
-  row-lent d = go (isLent tree cells) refl
+  pub row-lent : n ≡ done → {u : Bool} → ltb room least ≡ u
+      → cond u noRoom done ≡ cond (isLent tree cells) (cond (ltb room least) noRoom done) unsound
+  row-lent d f = ap (λ u. cond u noRoom done) (sym f) ∙ go (isLent tree cells) refl
     where
       go : (t : Bool) → isLent tree cells ≡ t → cond (ltb room least) noRoom done ≡ cond t (cond (ltb room least) noRoom done) unsound
       go true h = refl
       go false h = absurd (omega (arith, d, row-by false h))
-
--- The number of a reading is one of rows 2 to 7, or not.
-pub row-true : (n : ℕ) {t : Bool} → t ≡ (ltb 0 n && ltb n disabled) → t ≡ true → (0 < n) × (n < disabled)
-row-true n e h =
-    let both : (ltb 0 n && ltb n disabled) ≡ true = sym e ∙ h in
-    (ltb-true 0 n (and-left (ltb 0 n) (ltb n disabled) both), ltb-true n disabled (and-right (ltb 0 n) (ltb n disabled) both))
-
-pub row-false : (n : ℕ) {t : Bool} → t ≡ (ltb 0 n && ltb n disabled) → t ≡ false → 0 < n → disabled ≤ n
-row-false n e h p = ltb-false n disabled (sym (ap (λ b. b && ltb n disabled) (lt-ltb 0 n p)) ∙ sym e ∙ h)
 
 -- Rows 1 and 8 of a call, and the answer to what it received.
 abbrev pub lentRow : Call → ℕ
@@ -95,20 +72,23 @@ module _ (k : Call) where
   unfolding serve
   serve-by t u v e f g = rw (e, f, g)
 
-  gives-row : {n m : ℕ} → serving k ≡ turnedAway (k .cells) m → n ≡ m → (out : List ℕ) → Serves (serving k) out n 0 255 (k .cells) out
-  gives-row {n} e f out =
-      subst (λ s. Serves s out n 0 255 (k .cells) out) (sym e)
-      (subst (λ m. Serves (turnedAway (k .cells) m) out n 0 255 (k .cells) out) f (away (k .cells) out n))
+  -- Nothing written, no cell changed.
+  gives-row : {n m given len action : ℕ} → serving k ≡ turnedAway (k .cells) m → n ≡ m → (given ≡ n) × ((len ≡ 0) × (action ≡ 255))
+      → (out : List ℕ) → Serves (serving k) out given len action (k .cells) out
+  gives-row {given = given} {len = len} {action = action} e f away out =
+      subst (λ s. Serves s out given len action (k .cells) out) (sym e)
+      (record { number = away .0 ∙ f; len = away .1 .0; acts = away .1 .1; cells = refl; bytes = sym (over-nil out) })
 
   -- Rows 1 and 8.
-  pub serve-unlent : {n : ℕ} → n ≡ lentRow k → (n ≡ done → ⊥) → (out : List ℕ) → Serves (serving k) out n 0 255 (k .cells) out
-  serve-unlent {n} e u out = go (isLent (k .tree) (k .cells)) (ltb (k .room) (k .least)) refl refl e
+  pub serve-unlent : {n given len action : ℕ} → n ≡ lentRow k → (n ≡ done → ⊥) → (given ≡ n) × ((len ≡ 0) × (action ≡ 255))
+      → (out : List ℕ) → Serves (serving k) out given len action (k .cells) out
+  serve-unlent {n} {given} {len} {action} e u away out = go (isLent (k .tree) (k .cells)) (ltb (k .room) (k .least)) refl refl e
     where
       go : (t v : Bool) → isLent (k .tree) (k .cells) ≡ t → ltb (k .room) (k .least) ≡ v → n ≡ cond t (cond v noRoom done) unsound
-          → Serves (serving k) out n 0 255 (k .cells) out
-      go true true p q f = gives-row (serve-by true true (eqb (k .string .number) done) p q refl) f out
+          → Serves (serving k) out given len action (k .cells) out
+      go true true p q f = gives-row (serve-by true true (eqb (k .string .number) done) p q refl) f away out
       go true false p q f = absurd (u f)
-      go false v p q f = gives-row (serve-by false v (eqb (k .string .number) done) p q refl) f out
+      go false v p q f = gives-row (serve-by false v (eqb (k .string .number) done) p q refl) f away out
 
   pub record Open : Type 0 where
     pub lent : isLent (k .tree) (k .cells) ≡ true
@@ -124,10 +104,11 @@ module _ (k : Call) where
 
   -- The rows of what was received, and the answer.
   module _ (o : Open) where
-    pub serve-refused : {n : ℕ} → n ≡ k .string .number → (k .string .number ≡ done → ⊥) → (out : List ℕ) → Serves (serving k) out n 0 255 (k .cells) out
-    serve-refused e u out =
+    pub serve-refused : {n given len action : ℕ} → n ≡ k .string .number → (k .string .number ≡ done → ⊥)
+        → (given ≡ n) × ((len ≡ 0) × (action ≡ 255)) → (out : List ℕ) → Serves (serving k) out given len action (k .cells) out
+    serve-refused e u away out =
         gives-row
-        (serve-by true false false (o .lent) (le-ltb (k .room) (k .least) (o .roomy)) (ne-eqb (k .string .number) done u)) e out
+        (serve-by true false false (o .lent) (le-ltb (k .room) (k .least) (o .roomy)) (ne-eqb (k .string .number) done u)) e away out
 
     pub serve-answered : k .string .number ≡ done → {out cells′ out′ : List ℕ} {n size action : ℕ}
         → Serves (inForm (k .form) (answerTo k)) out n size action cells′ out′ → Serves (serving k) out n size action cells′ out′

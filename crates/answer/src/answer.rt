@@ -196,10 +196,10 @@ pub(crate) fn answer_asked(
     requires { ⌜ (256 ≤ length (now out)) × ((isLent (now tree) (now cells) ≡ true) × (asked .number ≡ done → Asks asked)) ⌝ }
     ensures { λ r. ⌜ Answers (answerAsked (seen (now (tree .entry))) (cellsIn (now (cells .entry))) host (askedIn asked)) (now (out .entry)) (r .number) (r .len) (r .action) (now (cells .exit)) (now (out .exit)) ⌝ }
 {
+    let number = asked.number;
     if !host {
         return refuse(DISABLED, out);
     }
-    let number = asked.number;
     if number != DONE {
         return refuse(number, out);
     }

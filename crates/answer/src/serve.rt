@@ -13,7 +13,6 @@ use protocol::UNSOUND;
 use tree::check;
 ghost use mathlib.Core.Path.{_≡_};
 ghost use mathlib.Core.Bool.{cond, _&&_};
-ghost use Prim.Native.Nat.{_≤_};
 ghost use lib.ListN.{length};
 ghost use lib.Dec.{ltb};
 ghost use Rattle.protocol.specs.Numbers.{done, unsound, noRoom};

@@ -1,15 +1,14 @@
 -- Datagrams: the test on their front, their number and data, and data put behind four zeros.
 -- Assumes nothing.
-use Prim.Native.Nat.{ℕ, suc, _+_, _-_, _<_, _≤_}
+use Prim.Native.Nat.{ℕ, _+_, _-_, _<_, _≤_}
 use native.Mathlib.Omega.{arith}
-use native.Mathlib.Numerals.{add-one}
-use mathlib.Core.Path.{_≡_, refl, sym, ap, subst, _∙_}
+use mathlib.Core.Path.{_≡_, refl, sym, ap, _∙_}
 use mathlib.Core.Bool.{Bool, true, false, cond, _&&_}
 use mathlib.Core.List.{List, [], _∷_, _++_}
 use borrow.Rule.Slice.PartMut.{putMid}
 use borrow.Author.Tests.{eq-eqb, ne-eqb, eqb-true, leb-true, le-leb, lt-leb}
 use lib.ListN.{length, getD, take, drop, set, length-drop}
-use lib.Seq.{take-suc, take-all}
+use lib.Seq.{take-all}
 use lib.Dec.{eqb, leb}
 use Rattle.protocol.specs.Numbers.{done, noPreamble}
 use Rattle.protocol.specs.Bytes.{every}
@@ -17,7 +16,7 @@ use Rattle.protocol.specs.Frame.{refused, received, sizeNumber, ifSized, datagr
 use Rattle.protocol.specs.Buffer.{over, Put, Emits}
 use Rattle.protocol.proofs.TestLaws.{and-left}
 use Rattle.protocol.proofs.FrameLaws.{readDatagram-by, readDatagram-only}
-use Rattle.protocol.proofs.BufferLaws.{put-nil, puts, length-put, over-put, part-lent, part-back}
+use Rattle.protocol.proofs.BufferLaws.{over-put, part-lent, part-back}
 
 -- The test, byte by byte.
 and-true : (t : Bool) → (t && true) ≡ t

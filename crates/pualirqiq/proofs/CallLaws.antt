@@ -2,16 +2,14 @@
 -- Assumes nothing.
 use Prim.Native.Nat.{ℕ, _+_, _*_, _<_, _≤_}
 use native.Mathlib.Omega.{arith}
-use native.Mathlib.Nat.{zero-add}
 use mathlib.Core.Path.{_≡_, refl, sym, ap, subst, _∙_}
 use mathlib.Core.Bool.{Bool, true, false, cond, _&&_}
-use mathlib.Core.List.{List, [], _∷_, _++_, append-nil}
+use mathlib.Core.List.{List, _++_, append-nil}
 use borrow.Author.Tests.{eq-eqb, ne-eqb}
-use lib.ListN.{length, drop, set, replicate, length-set, length-replicate, replicate-append-replicate, drop-of-length-le}
+use lib.ListN.{length, set, replicate, length-set, length-replicate, replicate-append-replicate, drop-of-length-le}
 use lib.Dec.{eqb}
 use Rattle.protocol.specs.Numbers.{done, unsound, maxProperties}
 use Rattle.protocol.specs.Buffer.{over, Put}
-use Rattle.protocol.specs.Tree.{sound}
 use Rattle.protocol.proofs.TestLaws.{and-right, and-both}
 use Rattle.protocol.proofs.BufferLaws.{set-put, put-nil, puts, over-put}
 use Rattle.tree.specs.Form.{formOf}

@@ -2,20 +2,19 @@
 -- Assumes nothing.
 use Prim.Native.Nat.{ℕ, _+_, _<_, _≤_}
 use native.Mathlib.Omega.{arith}
-use native.Mathlib.Numerals.{add-one}
 use mathlib.Core.Path.{_≡_, refl, sym, ap, subst, _∙_}
 use mathlib.Core.Bool.{Bool, true, false, cond}
-use mathlib.Core.List.{List, [], _∷_, _++_, append-assoc, append-nil}
+use mathlib.Core.List.{List, [], _∷_, _++_, append-nil}
 use borrow.Author.Tests.{eqb-true, eqb-false, ltb-false, eq-eqb, ne-eqb, lt-ltb, le-ltb}
-use lib.ListN.{length, getD, take, drop, length-take}
-use lib.Seq.{take-suc, take-all, take-at, length-take-le}
+use lib.ListN.{length, take, drop}
+use lib.Seq.{take-at, length-take-le}
 use lib.Dec.{eqb, ltb}
 use Rattle.protocol.specs.Numbers.{done, noRoom, roomSerial, roomUdp, PDI, opNode, opRead}
 use Rattle.protocol.specs.Bytes.{word}
 use Rattle.protocol.specs.Frame.{Received, received, refused, Sized, frame, datagram, ifSized, ifDone, ifRoom, writeFrame, writeDatagram}
 use Rattle.protocol.specs.Buffer.{putAt, fitting, Put, Emits}
 use Rattle.protocol.specs.Request.{Request, allowance, Allowed, dataOf, serialForm, udpForm}
-use Rattle.protocol.proofs.BufferLaws.{put-nil, puts, put-room, length-put, over-put, over-nil, emits-refused, emits-no-room, emits-in-room}
+use Rattle.protocol.proofs.BufferLaws.{put-room, over-put, over-nil, emits-refused, emits-no-room, emits-in-room}
 use Rattle.protocol.proofs.FrameLaws.{ifSized-sized}
 use Rattle.protocol.proofs.RequestLaws.{dataOf-size, dataOf-sized}
 use Rattle.request.specs.Asked.{requestOf}

@@ -2,8 +2,10 @@
 use mathlib.Core.Path.{_≡_}
 use borrow.Author.Needs.{needs}
 use borrow.Author.Tests.{not-true, not-false}
+use Rattle.tree.specs.Seen.{seen}
 use Rattle.tree.specs.Cells.{cellsForm, cellsIn}
 use Rattle.tree.proofs.CellLaws.{lent-form}
+use Rattle.answer.specs.Reply.{askedIn}
 use Rattle.answer.proofs.AnswerLaws.{refused, answers-as, is-disabled, not-asked, is-asked}
 use Rattle.answer.proofs.answer.answer_asked.Statement.{statement}
 use Rattle.answer.proofs.answer.answer_asked.Tie as tie
@@ -25,7 +27,7 @@ returns : tie.Need-returns
 returns c =
     let test = c .before .before .before .before in
     let start = test .before .before .before .before in
-    answers-as (is-disabled _ _ _ (not-true (start .args .host) (test .if1 .taken))) (refused (lent start) (c .before .before .refuse .ensures))
+    answers-as (is-disabled (seen (start .args .tree .now)) (cellsIn (start .args .cells .now)) (askedIn (start .args .asked)) (not-true (start .args .host) (test .if1 .taken))) (refused (lent start) (c .before .before .refuse .ensures))
 
 refuse-requires-2 : tie.Need-refuse-requires-2
 refuse-requires-2 c κs = search needs
@@ -37,7 +39,7 @@ returns-2 : tie.Need-returns-2
 returns-2 c =
     let test = c .before .before .before .before in
     let start = start-of (test .before) in
-    answers-as (not-asked _ _ _ (not-false (start .args .host) (test .before .if1 .left)) (test .if2 .taken))
+    answers-as (not-asked (seen (start .args .tree .now)) (cellsIn (start .args .cells .now)) (askedIn (start .args .asked)) (not-false (start .args .host) (test .before .if1 .left)) (test .if2 .taken))
     (refused (lent start) (c .before .before .refuse2 .ensures))
 
 perform-requires : tie.Need-perform-requires
@@ -57,7 +59,7 @@ returns-3 c =
     let answered = c .before .before .before .before in
     let test = answered .before .before .before in
     let start = start-of (test .before) in
-    answers-as (is-asked _ _ _ (not-false (start .args .host) (test .before .if1 .left)) (test .if2 .left)) (answered .perform .ensures)
+    answers-as (is-asked (seen (start .args .tree .now)) (cellsIn (start .args .cells .now)) (askedIn (start .args .asked)) (not-false (start .args .host) (test .before .if1 .left)) (test .if2 .left)) (answered .perform .ensures)
 
 pub answer-asked-spec : {M : Type 1} → statement M
 answer-asked-spec =

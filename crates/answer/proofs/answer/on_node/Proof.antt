@@ -52,7 +52,9 @@ returns : tie.Need-returns
 returns c =
     let put = c .before .before in
     let test = put .before .before in
-    answers-as (is-node _ _ _ _ (test .if1 .taken)) (replied (lent (test .before)) (put .put-node .ensures))
+    let start = start-of (test .before) in
+    answers-as (is-node (seen (start .args .tree .now)) (cellsIn (start .args .cells .now)) (requestIn (start .args .asked)) (start .args .node) (test .if1 .taken))
+    (replied (lent (test .before)) (put .put-node .ensures))
 
 property-requires : tie.Need-property-requires
 property-requires c κs = search needs
@@ -75,7 +77,7 @@ returns-2 c =
     let find = told .before .before in
     let start = start-of (find .before .before) in
     answers-as
-    (no-property _ _ _ _ (find .before .if1 .left)
+    (no-property (seen (start .args .tree .now)) (cellsIn (start .args .cells .now)) (requestIn (start .args .asked)) (start .args .node) (find .before .if1 .left)
     (found-none (propertyOf (seen (start .args .tree .now)) (start .args .node) (start .args .asked .index))
     (sym (told .enum-told .given .1) ∙ find .property .ensures)))
     (refused (lent (find .before .before)) (c .before .before .refuse .ensures))
@@ -108,7 +110,10 @@ returns-3 : tie.Need-returns-3
 returns-3 c =
     let answered = c .before .before .before .before in
     let known = answered .before .before .before .before in
-    answers-as (at-property _ _ _ _ (known .before .before .before .if1 .left) (found known)) (answered .on-property .ensures)
+    let test = known .before .before .before in
+    let start = start-of (test .before) in
+    answers-as (at-property (seen (start .args .tree .now)) (cellsIn (start .args .cells .now)) (requestIn (start .args .asked)) (start .args .node) (test .if1 .left) (found known))
+    (answered .on-property .ensures)
 
 pub on-node-spec : {M : Type 1} → statement M
 on-node-spec =

@@ -3,6 +3,8 @@ use Prim.Native.Nat.{_<_}
 use native.Mathlib.Omega.{arith}
 use borrow.Author.Needs.{needs}
 use Rattle.protocol.specs.Numbers.{opRead}
+use Rattle.tree.specs.Seen.{seen}
+use Rattle.tree.specs.Cells.{cellsIn}
 use Rattle.tree.proofs.CellLaws.{lent-form}
 use Rattle.answer.specs.Reply.{requestIn}
 use Rattle.answer.proofs.AnswerLaws.{place-fits, record-short, replied, answers-as, is-record, is-reading, is-write}
@@ -41,7 +43,7 @@ returns c =
     let put = c .before .before in
     let test = put .before .before in
     let start = start-of (test .before) in
-    answers-as (is-record _ _ _ _ (test .if1 .taken))
+    answers-as (is-record (seen (start .args .tree .now)) (cellsIn (start .args .cells .now)) (requestIn (start .args .asked)) (start .args .place) (test .if1 .taken))
     (replied (lent-form (start .args .tree .now) (start .args .cells .now) (start .pre .1 .0)) (put .put-record .ensures))
 
 on-read-requires : tie.Need-on-read-requires
@@ -56,7 +58,10 @@ same-length-3 c = search needs
 returns-2 : tie.Need-returns-2
 returns-2 c =
     let read = c .before .before in
-    answers-as (is-reading _ _ _ _ (read .before .before .before .if2 .taken)) (read .on-read .ensures)
+    let test = read .before .before .before in
+    let start = start-of (test .before .before .before) in
+    answers-as (is-reading (seen (start .args .tree .now)) (cellsIn (start .args .cells .now)) (requestIn (start .args .asked)) (start .args .place) (test .if2 .taken))
+    (read .on-read .ensures)
 
 on-write-requires : tie.Need-on-write-requires
 on-write-requires c κs =
@@ -84,7 +89,10 @@ same-length-5 c = search needs
 returns-3 : tie.Need-returns-3
 returns-3 c =
     let wrote = c .before .before .before .before in
-    answers-as (is-write _ _ _ _ (above (wrote .before .before .before))) (wrote .on-write .ensures)
+    let test = wrote .before .before .before in
+    let start = start-of (test .before .before .before) in
+    answers-as (is-write (seen (start .args .tree .now)) (cellsIn (start .args .cells .now)) (requestIn (start .args .asked)) (start .args .place) (above test))
+    (wrote .on-write .ensures)
 
 pub on-property-spec : {M : Type 1} → statement M
 on-property-spec =

@@ -2,9 +2,11 @@
 use mathlib.Core.Path.{sym, _∙_}
 use borrow.Author.Needs.{needs}
 use borrow.Author.Tests.{not-true, not-false}
-use Rattle.protocol.specs.Tree.{cellIn}
+use Rattle.protocol.specs.Tree.{propertyIn, cellIn}
+use Rattle.tree.specs.Seen.{seen}
 use Rattle.tree.specs.Cells.{cellsIn}
 use Rattle.tree.proofs.CellLaws.{lent-form}
+use Rattle.answer.specs.Reply.{requestIn}
 use Rattle.answer.proofs.AnswerLaws.{answers-as, refused, replied, read-refused, read-replied}
 use Rattle.answer.proofs.answer.on_read.Statement.{statement}
 use Rattle.answer.proofs.answer.on_read.Tie as tie
@@ -22,7 +24,7 @@ returns : tie.Need-returns
 returns c =
     let told = c .before .before .before .before .before in
     let start = told .before .before .before .before in
-    answers-as (read-refused _ _ _ _ (sym (told .is-readable .ensures) ∙ not-true (told .is-readable .result) (c .before .before .before .before .if1 .taken)))
+    answers-as (read-refused (cellsIn (start .args .cells .now)) (propertyIn (seen (start .args .tree .now)) (start .args .place)) (start .args .place) (requestIn (start .args .asked)) (sym (told .is-readable .ensures) ∙ not-true (told .is-readable .result) (c .before .before .before .before .if1 .taken)))
     (refused (lent-form (start .args .tree .now) (start .args .cells .now) (start .pre .1 .0)) (c .before .before .refuse .ensures))
 
 read-word-requires : tie.Need-read-word-requires
@@ -40,7 +42,7 @@ returns-2 c =
     let word = put .before .before in
     let told = word .before .before in
     let start = told .before .before .before .before in
-    answers-as (read-replied _ _ _ _ (sym (told .is-readable .ensures) ∙ not-false (told .is-readable .result) (word .before .if1 .left)))
+    answers-as (read-replied (cellsIn (start .args .cells .now)) (propertyIn (seen (start .args .tree .now)) (start .args .place)) (start .args .place) (requestIn (start .args .asked)) (sym (told .is-readable .ensures) ∙ not-false (told .is-readable .result) (word .before .if1 .left)))
     (replied (lent-form (start .args .tree .now) (start .args .cells .now) (start .pre .1 .0))
     (put .put-reading .ensures (cellIn (cellsIn (start .args .cells .now)) (start .args .place)) (sym (word .read-word .ensures))))
 

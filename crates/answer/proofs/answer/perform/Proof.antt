@@ -4,7 +4,7 @@ use native.Mathlib.Omega.{arith}
 use mathlib.Core.Path.{_≡_, sym, _∙_}
 use mathlib.Core.Option.{some}
 use borrow.Author.Needs.{needs}
-use lib.ListN.{length, length-map}
+use lib.ListN.{length}
 use Rattle.protocol.specs.Tree.{nodeAt}
 use Rattle.request.proofs.WriteLaws.{part-size}
 use Rattle.tree.specs.Seen.{seen}
@@ -12,6 +12,7 @@ use Rattle.tree.specs.Cells.{cellsForm, cellsIn}
 use Rattle.tree.proofs.CellLaws.{lent-form}
 use Rattle.tree.proofs.FoundLaws.{found-at, found-none}
 use Rattle.answer.specs.Reply.{requestIn}
+use Rattle.answer.proofs.ReplyLaws.{path-room}
 use Rattle.answer.proofs.AnswerLaws.{refused, replied, answers-as, is-detect, no-node, at-node}
 use Rattle.answer.proofs.answer.perform.Statement.{statement}
 use Rattle.answer.proofs.answer.perform.Tie as tie
@@ -25,8 +26,7 @@ lent c = lent-form (start-of c .args .tree .now) (start-of c .args .cells .now) 
 
 -- The path lies within its array.
 path-fits : (c : tie.Start) → c .args .asked .len ≤ length (c .args .asked .path)
-path-fits c =
-    omega (arith, c .good .1 .1 .0 .1 .1 .1 .1 .0 .1 .0 .1, length-map (c .args .asked .path) (λ b. b), c .pre .1 .1 .short)
+path-fits c = path-room (c .args .asked .path) (c .good .1 .1 .0 .1 .1 .1 .1 .0 .1 .0 .1) (c .pre .1 .1 .short)
 
 -- The node that was found.
 found : (c : tie.After-node2)
@@ -48,7 +48,9 @@ returns : tie.Need-returns
 returns c =
     let put = c .before .before in
     let test = put .before .before in
-    answers-as (is-detect _ _ _ (test .if1 .taken)) (replied (lent (test .before)) (put .put-code .ensures))
+    let start = start-of (test .before) in
+    answers-as (is-detect (seen (start .args .tree .now)) (cellsIn (start .args .cells .now)) (requestIn (start .args .asked)) (test .if1 .taken))
+    (replied (lent (test .before)) (put .put-code .ensures))
 
 array-share-prefix-path : tie.Need-array-share-prefix-path
 array-share-prefix-path c = path-fits (start-of (c .before .before))
@@ -80,7 +82,7 @@ returns-2 c =
     let test = find .before .before .before in
     let start = start-of (test .before) in
     answers-as
-    (no-node _ _ _ (test .if1 .left)
+    (no-node (seen (start .args .tree .now)) (cellsIn (start .args .cells .now)) (requestIn (start .args .asked)) (test .if1 .left)
     (found-none (nodeAt (seen (start .args .tree .now)) (requestIn (start .args .asked) .path))
     (sym (told .enum-told .given .1) ∙ find .node .ensures)))
     (refused (lent (test .before)) (c .before .before .refuse .ensures))
@@ -101,7 +103,10 @@ returns-3 : tie.Need-returns-3
 returns-3 c =
     let answered = c .before .before .before .before in
     let known = answered .before .before .before .before in
-    answers-as (at-node _ _ _ (known .before .before .before .before .before .if1 .left) (found known)) (answered .on-node .ensures)
+    let test = known .before .before .before .before .before in
+    let start = start-of (test .before) in
+    answers-as (at-node (seen (start .args .tree .now)) (cellsIn (start .args .cells .now)) (requestIn (start .args .asked)) (test .if1 .left) (found known))
+    (answered .on-node .ensures)
 
 pub perform-spec : {M : Type 1} → statement M
 perform-spec =

@@ -1,9 +1,6 @@
 -- `answer::serve::lent_number` meets its contract. Assumes nothing.
-use mathlib.Core.Path.{sym, ap, _∙_}
-use mathlib.Core.Bool.{cond}
 use borrow.Author.Needs.{needs}
 use borrow.Author.Tests.{lt-ltb, le-ltb}
-use Rattle.protocol.specs.Numbers.{noRoom, done}
 use Rattle.answer.proofs.ServeLaws.{row-unsound, row-lent}
 use Rattle.answer.proofs.serve.lent_number.Statement.{statement}
 use Rattle.answer.proofs.serve.lent_number.Tie as tie
@@ -22,16 +19,16 @@ returns-2 c =
     let else1 = c .before in
     let checked = else1 .before in
     let start = checked .before .before .before in
-    sym (ap (λ t. cond t noRoom done) (lt-ltb (start .args .room) (start .args .least) (c .if2 .taken)))
-    ∙ row-lent (start .args .tree .now) (start .args .cells .now) (start .args .room) (start .args .least) (checked .check .ensures) (else1 .if1 .left)
+    row-lent (start .args .tree .now) (start .args .cells .now) (start .args .room) (start .args .least) (checked .check .ensures) (else1 .if1 .left)
+    (lt-ltb (start .args .room) (start .args .least) (c .if2 .taken))
 
 returns-3 : tie.Need-returns-3
 returns-3 c =
     let else1 = c .before in
     let checked = else1 .before in
     let start = checked .before .before .before in
-    sym (ap (λ t. cond t noRoom done) (le-ltb (start .args .room) (start .args .least) (c .if2 .left)))
-    ∙ row-lent (start .args .tree .now) (start .args .cells .now) (start .args .room) (start .args .least) (checked .check .ensures) (else1 .if1 .left)
+    row-lent (start .args .tree .now) (start .args .cells .now) (start .args .room) (start .args .least) (checked .check .ensures) (else1 .if1 .left)
+    (le-ltb (start .args .room) (start .args .least) (c .if2 .left))
 
 pub lent-number-spec : {M : Type 1} → statement M
 lent-number-spec = tie.close (tie.spec check-requires returns returns-2 returns-3)

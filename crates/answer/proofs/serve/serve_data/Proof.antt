@@ -1,14 +1,13 @@
 -- `answer::serve::serve_data` meets its contract. Assumes nothing.
 use native.Mathlib.Omega.{arith}
-use mathlib.Core.Path.{_≡_, refl, sym, ap, _∙_}
+use mathlib.Core.Path.{_≡_, sym, ap, _∙_}
 use borrow.Author.Needs.{needs}
 use lib.ListN.{length}
-use Rattle.protocol.specs.Numbers.{done}
 use Rattle.protocol.specs.Frame.{received}
 use Rattle.protocol.specs.Request.{readRequest}
 use Rattle.answer.specs.Serve.{Call, dataCall}
 use Rattle.answer.proofs.ReadLaws.{sized-done, sized-refused, asked-is, asks}
-use Rattle.answer.proofs.ServeLaws.{turned, answerTo, Open, opened, serve-unlent, serve-refused, serve-answered, answered-as, as-data}
+use Rattle.answer.proofs.ServeLaws.{answerTo, Open, opened, serve-unlent, serve-refused, serve-answered, answered-as, as-data}
 use Rattle.answer.proofs.serve.serve_data.Statement.{statement}
 use Rattle.answer.proofs.serve.serve_data.Tie as tie
 
@@ -40,8 +39,7 @@ returns : tie.Need-returns
 returns c =
     let then1 = c .before in
     let start = start-of (then1 .before) in
-    turned (serve-unlent (call start) (then1 .before .lent-number .ensures) (then1 .if1 .taken) (start .args .out .now))
-    (c .turned-away .ensures .0) (c .turned-away .ensures .1 .0) (c .turned-away .ensures .1 .1)
+    serve-unlent (call start) (then1 .before .lent-number .ensures) (then1 .if1 .taken) (c .turned-away .ensures) (start .args .out .now)
 
 size-number-requires : tie.Need-size-number-requires
 size-number-requires c κs = search needs
@@ -58,8 +56,7 @@ returns-2 c =
     let sized = then2 .before in
     let start = start-of (sized .before .before) in
     let bad = sized-refused (start .args .request .now) (sized .size-number .ensures) (then2 .if2 .taken) in
-    turned (serve-refused (call start) (unrefused (sized .before)) (bad .0) (bad .1) (start .args .out .now))
-    (c .turned-away2 .ensures .0) (c .turned-away2 .ensures .1 .0) (c .turned-away2 .ensures .1 .1)
+    serve-refused (call start) (unrefused (sized .before)) (bad .0) (bad .1) (c .turned-away2 .ensures) (start .args .out .now)
 
 read-data-requires : tie.Need-read-data-requires
 read-data-requires c κs = search needs

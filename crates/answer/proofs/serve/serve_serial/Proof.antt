@@ -7,7 +7,7 @@ use Rattle.protocol.specs.Request.{readSerial}
 use Rattle.request.proofs.WriteLaws.{part-size}
 use Rattle.answer.specs.Serve.{Call, serialCall}
 use Rattle.answer.proofs.ReadLaws.{Read, early-frame, row-of-string, row-of-data}
-use Rattle.answer.proofs.ServeLaws.{turned, row-true, row-false, answerTo, Open, opened, serve-unlent, serve-refused, serve-answered, replies, answered-as, as-serial, reply-within}
+use Rattle.answer.proofs.ServeLaws.{answerTo, Open, opened, serve-unlent, serve-refused, serve-answered, replies, answered-as, as-serial, reply-within}
 use Rattle.answer.proofs.serve.serve_serial.Statement.{statement}
 use Rattle.answer.proofs.serve.serve_serial.Tie as tie
 
@@ -31,7 +31,7 @@ good c =
     let read = refusal .before in
     let start = start-of (else-of c .before) in
     row-of-data (call start .string) (early-frame (start .args .address) (start .args .s .now)) (read .read-serial .ensures)
-    (row-false (read .read-serial .result .number) (refusal .is-frame-refusal .ensures) (c .if2 .left))
+    (refusal .is-frame-refusal .ensures) (c .if2 .left)
 
 -- The reply's data lies in the array.
 abbrev before-answer : tie.After-answer-asked → tie.Else2
@@ -56,8 +56,7 @@ returns : tie.Need-returns
 returns c =
     let then1 = c .before in
     let start = start-of (then1 .before) in
-    turned (serve-unlent (call start) (then1 .before .lent-number .ensures) (then1 .if1 .taken) (start .args .out .now))
-    (c .turned-away .ensures .0) (c .turned-away .ensures .1 .0) (c .turned-away .ensures .1 .1)
+    serve-unlent (call start) (then1 .before .lent-number .ensures) (then1 .if1 .taken) (c .turned-away .ensures) (start .args .out .now)
 
 read-serial-requires : tie.Need-read-serial-requires
 read-serial-requires c κs = search needs
@@ -78,10 +77,8 @@ returns-2 c =
     let refusal = then2 .before in
     let read = refusal .before in
     let start = start-of (read .before .before) in
-    let row = row-true (read .read-serial .result .number) (refusal .is-frame-refusal .ensures) (then2 .if2 .taken) in
-    let bad = row-of-string (call start .string) (early-frame (start .args .address) (start .args .s .now)) (read .read-serial .ensures) (row .0) (row .1) in
-    turned (serve-refused (call start) (unrefused (read .before)) (bad .number) (bad .bad) (start .args .out .now))
-    (c .turned-away2 .ensures .0) (c .turned-away2 .ensures .1 .0) (c .turned-away2 .ensures .1 .1)
+    let bad = row-of-string (call start .string) (early-frame (start .args .address) (start .args .s .now)) (read .read-serial .ensures) (refusal .is-frame-refusal .ensures) (then2 .if2 .taken) in
+    serve-refused (call start) (unrefused (read .before)) (bad .number) (bad .bad) (c .turned-away2 .ensures) (start .args .out .now)
 
 slice-aggregate-answer-asked : tie.Need-slice-aggregate-answer-asked
 slice-aggregate-answer-asked c = search needs

@@ -7,7 +7,7 @@ use Rattle.protocol.specs.Request.{readUdp}
 use Rattle.protocol.proofs.BufferLaws.{part-lent}
 use Rattle.answer.specs.Serve.{Call, udpCall}
 use Rattle.answer.proofs.ReadLaws.{Read, early-datagram, row-of-string, row-of-data}
-use Rattle.answer.proofs.ServeLaws.{turned, row-true, row-false, answerTo, Open, opened, serve-unlent, serve-refused, serve-answered, replies, answered-as, as-udp, front-short, reply-short}
+use Rattle.answer.proofs.ServeLaws.{answerTo, Open, opened, serve-unlent, serve-refused, serve-answered, replies, answered-as, as-udp, front-short, reply-short}
 use Rattle.answer.proofs.serve.serve_udp.Statement.{statement}
 use Rattle.answer.proofs.serve.serve_udp.Tie as tie
 
@@ -31,7 +31,7 @@ good c =
     let read = refusal .before in
     let start = start-of (else-of c .before) in
     row-of-data (call start .string) (early-datagram (start .args .datagram .now)) (read .read-udp .ensures)
-    (row-false (read .read-udp .result .number) (refusal .is-frame-refusal .ensures) (c .if2 .left))
+    (refusal .is-frame-refusal .ensures) (c .if2 .left)
 
 abbrev before-answer : tie.After-answer-asked → tie.Else2
 before-answer c = c .before .before .before
@@ -49,8 +49,7 @@ returns : tie.Need-returns
 returns c =
     let then1 = c .before in
     let start = start-of (then1 .before) in
-    turned (serve-unlent (call start) (then1 .before .lent-number .ensures) (then1 .if1 .taken) (start .args .out .now))
-    (c .turned-away .ensures .0) (c .turned-away .ensures .1 .0) (c .turned-away .ensures .1 .1)
+    serve-unlent (call start) (then1 .before .lent-number .ensures) (then1 .if1 .taken) (c .turned-away .ensures) (start .args .out .now)
 
 read-udp-requires : tie.Need-read-udp-requires
 read-udp-requires c κs = search needs
@@ -71,10 +70,8 @@ returns-2 c =
     let refusal = then2 .before in
     let read = refusal .before in
     let start = start-of (read .before .before) in
-    let row = row-true (read .read-udp .result .number) (refusal .is-frame-refusal .ensures) (then2 .if2 .taken) in
-    let bad = row-of-string (call start .string) (early-datagram (start .args .datagram .now)) (read .read-udp .ensures) (row .0) (row .1) in
-    turned (serve-refused (call start) (unrefused (read .before)) (bad .number) (bad .bad) (start .args .out .now))
-    (c .turned-away2 .ensures .0) (c .turned-away2 .ensures .1 .0) (c .turned-away2 .ensures .1 .1)
+    let bad = row-of-string (call start .string) (early-datagram (start .args .datagram .now)) (read .read-udp .ensures) (refusal .is-frame-refusal .ensures) (then2 .if2 .taken) in
+    serve-refused (call start) (unrefused (read .before)) (bad .number) (bad .bad) (c .turned-away2 .ensures) (start .args .out .now)
 
 sub-answer-asked : tie.Need-sub-answer-asked
 sub-answer-asked c = omega (arith, unrefused (else-of (c .before)) .roomy)

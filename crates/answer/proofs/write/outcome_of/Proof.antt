@@ -1,20 +1,31 @@
 -- `answer::write::outcome_of` meets its contract. Assumes nothing.
 use mathlib.Core.Path.{_≡_, refl, sym, _∙_}
-use mathlib.Core.Bool.{true}
+use mathlib.Core.Bool.{Bool, true, cond}
 use borrow.Author.Needs.{needs}
 use borrow.Author.Tests.{not-true, not-false}
 use Rattle.protocol.specs.Tree.{canRead, canWrite}
+use Rattle.protocol.specs.Answer.{saved, outOfRange, outcome}
 use Rattle.tree.specs.Lent.{numbersOf}
 use Rattle.answer.proofs.WriteLaws.{outcome-by}
 use Rattle.answer.proofs.write.outcome_of.Statement.{statement}
 use Rattle.answer.proofs.write.outcome_of.Tie as tie
 
--- Behind the tests: the property can be writable, and it can be read.
+-- Behind the tests: the property can be written, and it can be read.
 writable : (c : tie.Else1) → true ≡ canWrite (numbersOf (c .before .before .args .f))
 writable c = sym (not-false (c .before .can-write .result) (c .if1 .left)) ∙ c .before .can-write .ensures
 
 readable : (c : tie.Else2) → true ≡ canRead (numbersOf (c .before .before .before .before .args .f))
 readable c = sym (not-false (c .before .can-read .result) (c .if2 .left)) ∙ c .before .can-read .ensures
+
+-- The range decides.
+ranged : (c : tie.After-in-range) {within : Bool} → c .in-range .result ≡ within
+    → let start = c .before .before .before .before .before in
+    cond within saved outOfRange ≡ outcome (numbersOf (start .args .f)) (start .args .value)
+ranged c e =
+    let else2 = c .before in
+    let else1 = else2 .before .before in
+    let start = else1 .before .before in
+    outcome-by (numbersOf (start .args .f)) (start .args .value) (writable else1) (readable else2) (sym e ∙ c .in-range .ensures)
 
 can-write-requires : tie.Need-can-write-requires
 can-write-requires c κs = search needs
@@ -45,26 +56,10 @@ in-range-requires : tie.Need-in-range-requires
 in-range-requires c κs = search needs
 
 returns-3 : tie.Need-returns-3
-returns-3 c =
-    let range = c .before in
-    let else2 = range .before in
-    let else1 = else2 .before .before in
-    let start = else1 .before .before in
-    outcome-by (numbersOf (start .args .f)) (start .args .value)
-    (writable else1)
-    (readable else2)
-    (sym (c .if3 .taken) ∙ range .in-range .ensures)
+returns-3 c = ranged (c .before) (c .if3 .taken)
 
 returns-4 : tie.Need-returns-4
-returns-4 c =
-    let range = c .before in
-    let else2 = range .before in
-    let else1 = else2 .before .before in
-    let start = else1 .before .before in
-    outcome-by (numbersOf (start .args .f)) (start .args .value)
-    (writable else1)
-    (readable else2)
-    (sym (c .if3 .left) ∙ range .in-range .ensures)
+returns-4 c = ranged (c .before) (c .if3 .left)
 
 pub outcome-of-spec : {M : Type 1} → statement M
 outcome-of-spec =

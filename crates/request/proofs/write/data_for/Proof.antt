@@ -1,5 +1,4 @@
 -- `request::write::data_for` meets its contract. Assumes nothing.
-use native.Mathlib.Omega.{arith}
 use mathlib.Core.Path.{sym, _∙_}
 use borrow.Author.Needs.{needs}
 use Rattle.protocol.specs.Request.{Request, Allowed, dataOf}

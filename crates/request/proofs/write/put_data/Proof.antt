@@ -1,9 +1,9 @@
 -- `request::write::put_data` meets its contract. Assumes nothing.
 use native.Mathlib.Omega.{arith}
 use mathlib.Core.Path.{ap}
-use mathlib.Core.List.{[], _∷_, _++_}
+use mathlib.Core.List.{[], _∷_}
 use borrow.Author.Needs.{needs}
-use lib.ListN.{length, take, length-append}
+use lib.ListN.{length, take}
 use Rattle.protocol.specs.Numbers.{PDI}
 use Rattle.protocol.specs.Bytes.{word}
 use Rattle.protocol.specs.Buffer.{Put}
