@@ -17,3 +17,4 @@ pub mod FieldLaws
 pub mod TextLaws
 pub mod ParentLaws
 pub mod StepLaws
+pub mod BenchLaws

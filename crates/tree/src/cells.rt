@@ -72,7 +72,7 @@ pub fn store_word(cells: &mut [u8], place: usize, n: u32)
 }
 
 // The mark of the cell at a place set.
-fn store_mark(cells: &mut [u8], place: usize, mark: bool)
+pub fn store_mark(cells: &mut [u8], place: usize, mark: bool)
     ensures { λ _. ⌜ now (cells .exit) ≡ withMark place mark (now (cells .entry)) ⌝ }
 {
     if cells.len() / CELL_SIZE <= place {
