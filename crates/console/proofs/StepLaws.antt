@@ -1,6 +1,6 @@
 -- A step of the bench: a frame's data served and shown.
 -- Assumes nothing.
-use Prim.Native.Nat.{ℕ, _+_, _<_, _≤_}
+use Prim.Native.Nat.{ℕ, _<_, _≤_}
 use native.Mathlib.Omega.{arith}
 use native.Mathlib.Nat.{zero-add}
 use mathlib.Core.Path.{_≡_, refl, sym, ap, ap₂, subst, _∙_}
@@ -15,7 +15,7 @@ use Rattle.protocol.proofs.BufferLaws.{over-put, over-nil}
 use Rattle.frame.specs.Stream.{FedBy, fed, Feeds}
 use Rattle.answer.specs.Serve.{Service, Serves}
 use Rattle.console.specs.Text.{lines}
-use Rattle.console.specs.Bench.{benchAddress, textRoom, served, servedLines, serialReply, shows, stepped, ServesLines, Steps}
+use Rattle.console.specs.Bench.{benchAddress, textRoom, served, serialReply, shows, stepped, ServesLines, Steps}
 
 -- What was written at the front of a buffer lies in it, and is its front.
 module _ (ys old : List ℕ) {new : List ℕ} {size : ℕ} (len : size ≡ length ys) (bytes : new ≡ over ys old) where

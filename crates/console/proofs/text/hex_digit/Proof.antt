@@ -4,23 +4,17 @@ use Rattle.console.specs.Text.{digit}
 use borrow.Author.Needs.{needs}
 use Rattle.console.proofs.text.hex_digit.Statement.{statement}
 use Rattle.console.proofs.text.hex_digit.Tie as tie
-use Rattle.console.proofs.text.hex_digit.Reads as reads
-use Rattle.console.proofs.text.hex_digit.Lts as lts
 
--- src/text.rt:16:16
 add-result : tie.Need-add-result
 add-result c = search needs
 
--- src/text.rt:16:9
 returns : tie.Need-returns
 unfolding digit
 returns c = simp (lt-ltb (c .before .args .n) 10 (c .if1 .taken))
 
--- src/text.rt:18:5
 add-result-2 : tie.Need-add-result-2
 add-result-2 c = search needs
 
--- src/text.rt:11:1
 returns-2 : tie.Need-returns-2
 unfolding digit
 returns-2 c = simp (le-ltb (c .before .args .n) 10 (c .if1 .left))

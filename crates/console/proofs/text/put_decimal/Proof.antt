@@ -6,27 +6,19 @@ use Rattle.console.specs.Text.{decimal}
 use borrow.Author.Needs.{needs}
 use Rattle.console.proofs.text.put_decimal.Statement.{statement}
 use Rattle.console.proofs.text.put_decimal.Tie as tie
-use Rattle.console.proofs.text.put_decimal.Reads as reads
-use Rattle.console.proofs.text.put_decimal.Lts as lts
-use Rattle.frame.proofs.buffer.put_all.Reads as put-all-reads
 
--- src/text.rt:50:16
 add-ones : tie.Need-add-ones
 add-ones c = search needs
 
--- src/text.rt:52:32
 slice-aggregate-put-all : tie.Need-slice-aggregate-put-all
 slice-aggregate-put-all c = search needs
 
--- src/text.rt:52:9
 put-all-requires : tie.Need-put-all-requires
 put-all-requires c κs = search needs
 
--- src/text.rt:52:9
 same-length : tie.Need-same-length
 same-length c = search needs
 
--- src/text.rt:52:9
 returns : tie.Need-returns
 unfolding decimal
 returns c =
@@ -35,23 +27,18 @@ returns c =
     let start = then1 .before .before in
     rw (lt-ltb (start .args .n) 10 (then1 .if1 .taken)) (put-fits (omega (arith, start .pre)) (put .put-all .ensures))
 
--- src/text.rt:54:16
 add-tens : tie.Need-add-tens
 add-tens c = search needs
 
--- src/text.rt:56:32
 slice-aggregate-put-all-2 : tie.Need-slice-aggregate-put-all-2
 slice-aggregate-put-all-2 c = search needs
 
--- src/text.rt:56:9
 put-all-requires-2 : tie.Need-put-all-requires-2
 put-all-requires-2 c κs = search needs
 
--- src/text.rt:56:9
 same-length-2 : tie.Need-same-length-2
 same-length-2 c = search needs
 
--- src/text.rt:56:9
 returns-2 : tie.Need-returns-2
 unfolding decimal
 returns-2 c =
@@ -62,23 +49,18 @@ returns-2 c =
     rw (le-ltb (start .args .n) 10 (else1 .if1 .left), lt-ltb (start .args .n) 100 (then2 .if2 .taken))
     (put-fits (omega (arith, start .pre)) (put .put-all2 .ensures))
 
--- src/text.rt:58:20
 add-hundreds : tie.Need-add-hundreds
 add-hundreds c = search needs
 
--- src/text.rt:59:21
 slice-aggregate-put-all-3 : tie.Need-slice-aggregate-put-all-3
 slice-aggregate-put-all-3 c = search needs
 
--- src/text.rt:59:5
 put-all-requires-3 : tie.Need-put-all-requires-3
 put-all-requires-3 c κs = search needs
 
--- src/text.rt:46:1
 same-length-3 : tie.Need-same-length-3
 same-length-3 c = search needs
 
--- src/text.rt:46:1
 returns-3 : tie.Need-returns-3
 unfolding decimal
 returns-3 c =

@@ -5,9 +5,6 @@ use lib.ListN.{length}
 use Rattle.console.proofs.TextLaws.{Writing, begins, more, same, room-left, ends}
 use Rattle.console.proofs.text.put_hex.Statement.{statement}
 use Rattle.console.proofs.text.put_hex.Tie as tie
-use Rattle.console.proofs.text.put_hex.Reads as reads
-use Rattle.console.proofs.text.put_hex.Lts as lts
-use Rattle.console.proofs.text.put_hex_byte.Reads as put-hex-byte-reads
 
 abbrev Inv-loop : tie.InvT-loop
 Inv-loop bs out₀ from at₀ i₀ out at i = Writing bs out₀ from out at i
@@ -15,32 +12,26 @@ Inv-loop bs out₀ from at₀ i₀ out at i = Writing bs out₀ from out at i
 abbrev μ-loop : tie.MeasureT-loop
 μ-loop bs out₀ from at₀ i₀ out at i = length bs - i
 
--- src/text.rt:38:5
 loop-holds : tie.Need-loop-holds Inv-loop μ-loop
 loop-holds c =
     let start = c .before .before in
     begins (start .args .bs .now) (start .args .out .now) (start .args .from) (start .pre)
 
--- src/text.rt:39:36
 shared-slice-read-put-hex-byte : tie.Need-shared-slice-read-put-hex-byte Inv-loop μ-loop
 shared-slice-read-put-hex-byte c = omega arith
 
--- src/text.rt:39:9
 put-hex-byte-requires : tie.Need-put-hex-byte-requires Inv-loop μ-loop
 put-hex-byte-requires c κs =
     let in-loop = c .before .before in
     let start = in-loop .before .before .before .before in
     room-left (start .args .bs .now) (start .args .out .now) (start .args .from) (start .pre) (in-loop .before .loop .inv) (in-loop .loop-test .taken)
 
--- src/text.rt:40:9
 add-i : tie.Need-add-i Inv-loop μ-loop
 add-i c = omega arith
 
--- src/text.rt:38:5
 loop-less : tie.Need-loop-less Inv-loop μ-loop
 loop-less c = omega arith
 
--- src/text.rt:38:5
 loop-again : tie.Need-loop-again Inv-loop μ-loop
 loop-again c =
     let put = c .before .before in
@@ -49,13 +40,11 @@ loop-again c =
     more (start .args .bs .now) (start .args .out .now) (start .args .from) (start .pre) (in-loop .before .loop .inv) (in-loop .loop-test .taken)
     (put .put-hex-byte .ensures)
 
--- src/text.rt:32:1
 same-length : tie.Need-same-length Inv-loop μ-loop
 same-length c =
     let start = c .before .before .before .before in
     same (start .args .bs .now) (start .args .out .now) (start .args .from) (start .pre) (c .before .loop .inv)
 
--- src/text.rt:32:1
 returns : tie.Need-returns Inv-loop μ-loop
 returns c =
     let start = c .before .before .before .before in

@@ -10,11 +10,6 @@ use Rattle.console.proofs.TextLaws.{decimal-short, length-hex}
 use borrow.Author.Needs.{needs}
 use Rattle.console.proofs.text.put_lines.Statement.{statement}
 use Rattle.console.proofs.text.put_lines.Tie as tie
-use Rattle.console.proofs.text.put_lines.Reads as reads
-use Rattle.console.proofs.text.put_lines.Lts as lts
-use Rattle.console.proofs.text.put_decimal.Reads as put-decimal-reads
-use Rattle.console.proofs.text.put_hex.Reads as put-hex-reads
-use Rattle.frame.proofs.buffer.put_all.Reads as put-all-reads
 
 -- The function's entry, from each call.
 abbrev start-1 : tie.After-put-all → tie.Start
@@ -54,48 +49,38 @@ ended : (c : tie.After-put-hex)
     → Put 0 (front (start-4 c) ++ hex (start-4 c .args .reply .now)) (start-4 c .args .out .now) (c .put-hex .result) (c .put-hex .last .1 .0)
 ended c = puts (omega arith) (started (c .before .before .before .before)) (c .put-hex .ensures)
 
--- src/text.rt:67:33
 slice-aggregate-put-all : tie.Need-slice-aggregate-put-all
 slice-aggregate-put-all c = search needs
 
--- src/text.rt:67:9
 put-all-requires : tie.Need-put-all-requires
 put-all-requires c κs = search needs
 
--- src/text.rt:68:9
 put-decimal-requires : tie.Need-put-decimal-requires
 put-decimal-requires c κs =
     let put = c .before .before .before in
     put-room (named put) 3 (omega (arith, start-1 put .pre))
 
--- src/text.rt:69:35
 slice-aggregate-put-all-2 : tie.Need-slice-aggregate-put-all-2
 slice-aggregate-put-all-2 c = search needs
 
--- src/text.rt:69:9
 put-all-requires-2 : tie.Need-put-all-requires-2
 put-all-requires-2 c κs = search needs
 
--- src/text.rt:70:9
 put-hex-requires : tie.Need-put-hex-requires
 put-hex-requires c κs =
     let put = c .before .before .before in
     let start = start-3 put in
     put-room (started put) (2 * length (start .args .reply .now)) (omega (arith, start .pre, front-short start))
 
--- src/text.rt:71:21
 slice-aggregate-put-all-3 : tie.Need-slice-aggregate-put-all-3
 slice-aggregate-put-all-3 c = search needs
 
--- src/text.rt:71:5
 put-all-requires-3 : tie.Need-put-all-requires-3
 put-all-requires-3 c κs = search needs
 
--- src/text.rt:63:1
 same-length : tie.Need-same-length
 same-length c = search needs
 
--- src/text.rt:63:1
 returns : tie.Need-returns
 unfolding lines
 returns c =
