@@ -1,0 +1,62 @@
+-- `bench::show` is safe: the lines lie in the text. Assumes nothing.
+use Prim.Native.Nat.{_≤_}
+use lib.ListN.{length}
+use Rattle.request.proofs.WriteLaws.{part-size}
+use Rattle.console.proofs.StepLaws.{front-within}
+use borrow.Author.Needs.{needs}
+use Rattle.bench.proofs.show.Statement.{statement}
+use Rattle.bench.proofs.show.Tie as tie
+
+within : (c : tie.After-step) → c .step .result .len ≤ length (c .step .last .1 .1 .1 .0)
+within c = front-within _ _ (c .step .ensures .len) (c .step .ensures .bytes)
+
+slice-aggregate-step : tie.Need-slice-aggregate-step
+slice-aggregate-step c = search needs
+
+step-requires : tie.Need-step-requires
+step-requires c κs = search needs
+
+array-share-prefix-text : tie.Need-array-share-prefix-text
+array-share-prefix-text c = within (c .before .before .before .before .before)
+
+slice-aggregate-write-all : tie.Need-slice-aggregate-write-all
+slice-aggregate-write-all c =
+    let shown = c .before .before .before .before .before .before in
+    part-size (shown .step .result .len) (shown .step .last .1 .1 .1 .0) (within shown)
+
+write-all-requires : tie.Need-write-all-requires
+write-all-requires c κs = search needs
+
+same-length : tie.Need-same-length
+same-length c = search needs
+
+same-length-2 : tie.Need-same-length-2
+same-length-2 c = search needs
+
+returns : tie.Need-returns
+returns c = search needs
+
+same-length-3 : tie.Need-same-length-3
+same-length-3 c = search needs
+
+same-length-4 : tie.Need-same-length-4
+same-length-4 c = search needs
+
+returns-2 : tie.Need-returns-2
+returns-2 c = search needs
+
+pub show-spec : {M : Type 1} → statement M
+show-spec =
+    tie.close
+    (tie.spec
+    slice-aggregate-step
+    step-requires
+    array-share-prefix-text
+    slice-aggregate-write-all
+    write-all-requires
+    same-length
+    same-length-2
+    returns
+    same-length-3
+    same-length-4
+    returns-2)

@@ -1,0 +1,58 @@
+// The bench program: a stream from standard input over the bench tree, address 0, host functions on (document 01, Bench tree
+// and its cases). What it does with each part of the input is `console::bench::step`.
+use libc::STDIN_FILENO;
+use libc::STDOUT_FILENO;
+
+// One step over a part of the input: its lines are written. Returns how many bytes it took; 0 where the lines could not be written.
+fn show(state: &mut [u8], cells: &mut [u8], bytes: &[u8]) -> usize {
+    let mut text = [0u8; 1058];
+    let shown = console::bench::step(state, cells, bytes, &mut text);
+    let len = shown.len;
+    if !io::write_all(STDOUT_FILENO, &text[..len]) {
+        return 0;
+    }
+    shown.taken
+}
+
+// All of a part of the input, step by step. Returns whether to go on.
+fn show_all(state: &mut [u8], cells: &mut [u8], bytes: &[u8]) -> bool {
+    let mut at = 0;
+    while at < bytes.len() {
+        let taken = show(state, cells, &bytes[at..]);
+        if taken == 0 {
+            return false;
+        }
+        if bytes.len() - at < taken {
+            return false;
+        }
+        at += taken;
+    }
+    true
+}
+
+// One read, and what came of it. Returns whether to go on.
+fn read_some(state: &mut [u8], cells: &mut [u8]) -> bool {
+    let mut input = io::buffer();
+    let got = libc::read(STDIN_FILENO, &mut input);
+    if got <= 0 {
+        return false;
+    }
+    let n = io::count(got, &input);
+    show_all(state, cells, &input[..n])
+}
+
+// Reads until the input ends. A proved loop has to end, and nothing says that the input does: so it counts its turns down, from a
+// number that no run uses up.
+fn read_all(state: &mut [u8], cells: &mut [u8]) {
+    let mut turns = u64::MAX;
+    while turns > 0 && read_some(state, cells) {
+        turns -= 1;
+    }
+}
+
+fn main() {
+    io::write_all(STDOUT_FILENO, b"address=0\n");
+    let mut state = [0u8; 261];
+    let mut cells = tree::bench::cells();
+    read_all(&mut state, &mut cells);
+}
