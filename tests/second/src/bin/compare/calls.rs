@@ -1,0 +1,176 @@
+//! An input given to the library, and to the second implementation.
+use crate::input::{Call, Input, Lent, Seen};
+use crate::library::*;
+use second::request::Request;
+use second::serve::Served;
+use second::{cells, frame, request, serve, stream};
+
+/// What numbers that are handed back hold before the call.
+const UNSET: u64 = 0xEEEE_EEEE_EEEE_EEEE;
+
+/// Numbers that a call hands back.
+struct Back {
+    long: [usize; 2],
+    short: [u8; 2],
+    value: u32,
+    path: Box<[u8]>,
+}
+
+impl Back {
+    fn new() -> Back {
+        Back { long: [UNSET as usize; 2], short: [UNSET as u8; 2], value: UNSET as u32, path: vec![0xEE; 16].into() }
+    }
+
+    fn request(&self) -> [u64; 5] {
+        request_fields(self.short[0], &self.path, self.long[0], self.short[1], self.value)
+    }
+
+    fn served(&self) -> [u64; 5] {
+        [self.long[0] as u64, self.short[0].into(), 0, 0, 0]
+    }
+}
+
+fn request_fields(op: u8, path: &[u8], len: usize, index: u8, value: u32) -> [u64; 5] {
+    let half = |bytes: &[u8]| u64::from_be_bytes(bytes.try_into().unwrap());
+    let small = u64::from(op) << 48 | u64::from(index) << 32 | u64::from(value);
+    [small, len as u64, half(&path[..8]), half(&path[8..]), 0]
+}
+
+/// The library's call.
+pub fn library(input: &Input) -> Seen {
+    let mut lent = Lent::of(input);
+    let mut back = Back::new();
+    let (number, fields) = unsafe { call(input, &mut lent, &mut back) };
+    Seen { number, fields, lent }
+}
+
+unsafe fn call(i: &Input, lent: &mut Lent, back: &mut Back) -> (u8, [u64; 5]) {
+    let (tree, tree_len) = (lent.tree.as_ptr(), lent.tree.len());
+    let (cells, cells_len) = (lent.cells.as_mut_ptr(), lent.cells.len());
+    let (state, state_len) = (lent.state.as_mut_ptr(), lent.state.len());
+    let (bytes, bytes_len) = (lent.bytes.as_ptr(), lent.bytes.len());
+    let (out, out_len) = (lent.out.as_mut_ptr(), lent.out.len());
+    let [long, more] = &mut back.long;
+    let [short, other] = &mut back.short;
+    let path = back.path.as_mut_ptr();
+    let one = |field: u64| [field, 0, 0, 0, 0];
+    match i.call {
+        Call::StateSize => (0, one(pq_state_size() as u64)),
+        Call::BeginStream => (pq_begin_stream(state, state_len), one(0)),
+        Call::Feed => {
+            let number = pq_feed(state, state_len, i.address, bytes, bytes_len, out, out_len, long, more);
+            (number, [*long as u64, *more as u64, 0, 0, 0])
+        }
+        Call::Check => (pq_check(tree, tree_len, cells, cells_len), one(0)),
+        Call::CellsSize => (0, one(pq_cells_size(tree, tree_len) as u64)),
+        Call::BeginCells => (pq_begin_cells(tree, tree_len, cells, cells_len), one(0)),
+        Call::Post => (pq_post(tree, tree_len, cells, cells_len, i.place, i.value, i.ready), one(0)),
+        Call::Word => (0, one(pq_word(cells, cells_len, i.place).into())),
+        Call::IsReady => (0, one(pq_is_ready(cells, cells_len, i.place).into())),
+        Call::ServeData => {
+            let number =
+                pq_serve_data(tree, tree_len, cells, cells_len, i.host, bytes, bytes_len, out, out_len, long, short);
+            (number, back.served())
+        }
+        Call::ServeSerial => {
+            let number = pq_serve_serial(
+                tree, tree_len, cells, cells_len, i.host, i.address, bytes, bytes_len, out, out_len, long, short,
+            );
+            (number, back.served())
+        }
+        Call::ServeUdp => {
+            let number =
+                pq_serve_udp(tree, tree_len, cells, cells_len, i.host, bytes, bytes_len, out, out_len, long, short);
+            (number, back.served())
+        }
+        Call::Frame => (pq_frame(i.address, bytes, bytes_len, out, out_len, long), one(*long as u64)),
+        Call::Datagram => (pq_datagram(bytes, bytes_len, out, out_len, long), one(*long as u64)),
+        Call::ReadSerial => {
+            let number = pq_read_serial(i.address, bytes, bytes_len, short, path, long, other, &mut back.value);
+            (number, back.request())
+        }
+        Call::ReadUdp => {
+            let number = pq_read_udp(bytes, bytes_len, short, path, long, other, &mut back.value);
+            (number, back.request())
+        }
+        Call::WriteSerial => {
+            let number = pq_write_serial(i.address, i.op, bytes, bytes_len, i.index, i.value, out, out_len, long);
+            (number, one(*long as u64))
+        }
+        Call::WriteUdp => {
+            let number = pq_write_udp(i.op, bytes, bytes_len, i.index, i.value, out, out_len, long);
+            (number, one(*long as u64))
+        }
+    }
+}
+
+/// The second implementation's answer to the same input.
+pub fn second(input: &Input) -> Seen {
+    let mut lent = Lent::of(input);
+    let (number, fields) = answer(input, &mut lent);
+    Seen { number, fields, lent }
+}
+
+fn one(field: u64) -> [u64; 5] {
+    [field, 0, 0, 0, 0]
+}
+
+fn answer(i: &Input, lent: &mut Lent) -> (u8, [u64; 5]) {
+    let host = i.host != 0;
+    match i.call {
+        Call::StateSize => (0, one(stream::STATE_SIZE as u64)),
+        Call::BeginStream => (stream::begin(&mut lent.state), one(0)),
+        Call::Feed => feed(i, lent),
+        Call::Check => (cells::check(&lent.tree, &lent.cells), one(0)),
+        Call::CellsSize => (0, one(cells::size(&lent.tree) as u64)),
+        Call::BeginCells => (cells::begin(&lent.tree, &mut lent.cells), one(0)),
+        Call::Post => (cells::post(&lent.tree, &mut lent.cells, i.place, i.value, i.ready != 0), one(0)),
+        Call::Word => (0, one(cells::word(&lent.cells, i.place).into())),
+        Call::IsReady => (0, one(cells::is_ready(&lent.cells, i.place).into())),
+        Call::ServeData => {
+            served(serve::serve_data(&lent.tree, &mut lent.cells, host, &lent.bytes, &mut lent.out))
+        }
+        Call::ServeSerial => {
+            served(serve::serve_serial(&lent.tree, &mut lent.cells, host, i.address, &lent.bytes, &mut lent.out))
+        }
+        Call::ServeUdp => served(serve::serve_udp(&lent.tree, &mut lent.cells, host, &lent.bytes, &mut lent.out)),
+        Call::Frame => written(frame::write_frame(i.address, &lent.bytes, &mut lent.out)),
+        Call::Datagram => written(frame::write_datagram(&lent.bytes, &mut lent.out)),
+        Call::ReadSerial => read(request::read_serial(i.address, &lent.bytes)),
+        Call::ReadUdp => read(request::read_udp(&lent.bytes)),
+        Call::WriteSerial => {
+            written(request::write_serial(i.address, i.op, &lent.bytes, i.index, i.value, &mut lent.out))
+        }
+        Call::WriteUdp => written(request::write_udp(i.op, &lent.bytes, i.index, i.value, &mut lent.out)),
+    }
+}
+
+/// Both readers of the second implementation, which must agree.
+fn feed(i: &Input, lent: &mut Lent) -> (u8, [u64; 5]) {
+    let mut plain = Lent::of(i);
+    let slow = stream::feed_plain(&mut plain.state, i.address, &plain.bytes, &mut plain.out);
+    let fed = stream::feed(&mut lent.state, i.address, &lent.bytes, &mut lent.out);
+    assert!(slow == fed && plain == *lent, "the two readers differ: {}", i.show());
+    (fed.number, [fed.taken as u64, fed.len as u64, 0, 0, 0])
+}
+
+fn served(served: Served) -> (u8, [u64; 5]) {
+    (served.number, [served.len as u64, served.action.into(), 0, 0, 0])
+}
+
+fn written(result: Result<usize, u8>) -> (u8, [u64; 5]) {
+    match result {
+        Ok(len) => (0, one(len as u64)),
+        Err(number) => (number, one(0)),
+    }
+}
+
+fn read(result: Result<Request, u8>) -> (u8, [u64; 5]) {
+    let (number, request) = match result {
+        Ok(request) => (0, request),
+        Err(number) => (number, Request::default()),
+    };
+    let fields =
+        request_fields(request.op, request.whole_path(), request.path().len(), request.index, request.value);
+    (number, fields)
+}

@@ -1,0 +1,81 @@
+//! The cases of document 01 and of its readings, each with the bytes the paper gives.
+use crate::input::{Call, Input};
+use crate::tally::Tally;
+
+fn bytes(hex: &str) -> Vec<u8> {
+    let digits: Vec<u8> = hex.bytes().filter(|byte| *byte != b' ').collect();
+    let pair = |pair: &[u8]| u8::from_str_radix(std::str::from_utf8(pair).unwrap(), 16).unwrap();
+    digits.chunks(2).map(pair).collect()
+}
+
+/// Request, number, reply; the read has its status byte (PDI 5.4).
+const SERVED: [(&str, u8, &str); 17] = [
+    ("B4 00", 0, "55"),
+    ("B4 01 01", 0, "B4 01 01 02 00 42 6F 78 00"),
+    (
+        "B4 02 01 02 02",
+        0,
+        "B4 02 01 02 02 02 00000000 00000001 0003 1080 52 61 74 65 00 53 6C 6F 77 00 46 61 73 74 00",
+    ),
+    ("B4 03 01 01 01", 0, "B4 03 01 01 01 01 00000834"),
+    ("B4 03 01 01 02", 12, "58"),
+    ("B4 04 01 02 01 00 00000040", 0, "B4 04 01 02 01 00 00000040 01"),
+    ("B4 04 01 02 01 00 00000041", 13, "B4 04 01 02 01 00 00000041 00"),
+    ("B4 04 01 02 02 00 00000002", 13, "B4 04 01 02 02 00 00000002 00"),
+    ("B4 04 01 02 03 00 00000000", 0, "B4 04 01 02 03 00 00000000 02"),
+    ("B4 05 01 01 01 00 00000000", 13, "B4 05 01 01 01 00 00000000 00 52 65 61 64 20 6F 6E 6C 79 00"),
+    ("B4 04 01 02 01 00 000000", 11, "54"),
+    ("B4 03 01 03 01", 11, "54"),
+    ("B4 06", 10, "59"),
+    ("B4", 11, "54"),
+    ("FF", 10, "59"),
+    ("B4 00 01", 11, "54"),
+    ("B4 01 01 00", 11, "54"),
+];
+
+/// Address, data, frame.
+const FRAMED: [(u8, &str, &str); 2] = [(0x3B, "B4 00", "10 02 3B B4 00 10 10 10 03"), (0x10, "B4 00", "10 02 10 10 B4 00 3B 10 03")];
+
+/// Serial strings for address 0 and the number that reading them gives.
+const STRINGS: [(&str, u8); 8] = [
+    ("10 02 10 03", 4),
+    ("10 02 00 10 10 03", 3),
+    ("", 2),
+    ("10", 2),
+    ("10 02", 3),
+    ("10 02 10", 3),
+    ("10 02 00 B4 00 4B 10 03", 0),
+    ("10 02 00 B4 00 4B 10 03 10 03", 3),
+];
+
+pub fn run(tally: &mut Tally) {
+    tally.compare(&Input::of(Call::StateSize));
+    serve_all(tally);
+    for (address, data, frame) in FRAMED {
+        let (data, frame) = (bytes(data), bytes(frame));
+        let input = Input { address, bytes: &data, room: 520, ..Input::of(Call::Frame) };
+        let seen = tally.compare(&input);
+        tally.expect(seen.number == 0 && seen.lent.out[..frame.len()] == frame, "the frame is the paper's", &input);
+    }
+    for (string, number) in STRINGS {
+        let string = bytes(string);
+        let input = Input { bytes: &string, ..Input::of(Call::ReadSerial) };
+        let seen = tally.compare(&input);
+        tally.expect(seen.number == number, "the number is the paper's", &input);
+    }
+}
+
+fn serve_all(tally: &mut Tally) {
+    let tree = second::bench::tree().write();
+    for (request, number, reply) in SERVED {
+        let (request, reply) = (bytes(request), bytes(reply));
+        let mut input = Input::of(Call::ServeData);
+        (input.tree, input.cells, input.host, input.bytes, input.room) = (&tree, &second::bench::CELLS, 1, &request, 256);
+        let seen = tally.compare(&input);
+        let same = seen.number == number && seen.fields[0] == reply.len() as u64 && seen.lent.out[..reply.len()] == reply;
+        tally.expect(same, "the reply is the paper's", &input);
+        input.host = 0;
+        let seen = tally.compare(&input);
+        tally.expect(seen.number == 9 && seen.lent.out[0] == 0x57, "57 where host functions are off", &input);
+    }
+}

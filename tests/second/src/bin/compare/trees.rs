@@ -1,0 +1,125 @@
+//! Trees and cells: checked, posted to, and requests served over them.
+use crate::draft::{broken, Draft, BREAKS};
+use crate::input::{Call, Input};
+use crate::random::Random;
+use crate::requests::{self, Road};
+use crate::tally::Tally;
+
+const SERVED: usize = 120;
+
+pub fn run(random: &Random, tally: &mut Tally, round: usize) {
+    let draft = Draft::draw(random);
+    let tree = draft.form();
+    let mut cells = draft.cells(random);
+    check(tally, &tree, &cells, Some(0));
+    begin(random, tally, &tree, draft.properties.len());
+    let few = tree.len() > 10_000;
+    for _ in 0..if few { SERVED / 6 } else { SERVED } {
+        serve(random, tally, &draft, &tree, &mut cells);
+    }
+    for _ in 0..10 {
+        post(random, tally, &draft, &tree, &mut cells);
+        look(random, tally, &cells);
+    }
+    break_one(random, tally, &draft, round);
+    change(random, tally, &draft);
+}
+
+/// The three calls that look at a tree as a whole, and the number that the check must give.
+fn check(tally: &mut Tally, tree: &[u8], cells: &[u8], number: Option<u8>) {
+    let input = Input { tree, cells, ..Input::of(Call::Check) };
+    let seen = tally.compare(&input);
+    tally.expect(number.is_none_or(|number| seen.number == number), "the check gives the number meant", &input);
+    tally.compare(&Input { tree, ..Input::of(Call::CellsSize) });
+}
+
+fn begin(random: &Random, tally: &mut Tally, tree: &[u8], properties: usize) {
+    let wrong = random.pick(&[5 * properties + 5, 5 * properties + 1, (5 * properties).saturating_sub(1), 0]);
+    let len = random.pick(&[5 * properties, 5 * properties, wrong]);
+    let cells = random.bytes(len);
+    tally.compare(&Input { tree, cells: &cells, ..Input::of(Call::BeginCells) });
+}
+
+/// Serves one request by a drawn road; the cells go on to the next.
+fn serve(random: &Random, tally: &mut Tally, draft: &Draft, tree: &[u8], cells: &mut Vec<u8>) {
+    let road = random.pick(&[Road::Data, Road::Serial, Road::Udp]);
+    let address = requests::address(random);
+    let bytes = requests::draw(random, draft, road, address);
+    let (call, least) = match road {
+        Road::Data => (Call::ServeData, 256),
+        Road::Serial => (Call::ServeSerial, 520),
+        Road::Udp => (Call::ServeUdp, 260),
+    };
+    let mut input = Input { tree, cells, bytes: &bytes, address, ..Input::of(call) };
+    input.host = random.pick(&[0, 1, 1, 1, 1, 1, 2, 255]);
+    input.room = random.room(least);
+    let seen = tally.compare(&input);
+    *cells = seen.lent.cells.to_vec();
+}
+
+/// Posts to any kind of place; the cells go on.
+fn post(random: &Random, tally: &mut Tally, draft: &Draft, tree: &[u8], cells: &mut Vec<u8>) {
+    let count = draft.properties.len();
+    let mut input = Input { tree, cells, value: random.word(), ..Input::of(Call::Post) };
+    input.place = place(random, count);
+    input.ready = random.pick(&[0, 1, 1, 2, 255]);
+    let seen = tally.compare(&input);
+    *cells = seen.lent.cells.to_vec();
+}
+
+/// A place, mostly one that there is; others so that five times the place runs over 64 bits.
+fn place(random: &Random, count: usize) -> usize {
+    let far = [count, count + 1, 255, 256, 1 << 32, usize::MAX, usize::MAX / 5 + 1, (1 << 63) + 1, random.next() as usize];
+    if count == 0 || random.once_in(5) {
+        random.pick(&far)
+    } else {
+        random.below(count)
+    }
+}
+
+/// The firmware's own look at a cell.
+fn look(random: &Random, tally: &mut Tally, cells: &[u8]) {
+    let place = place(random, cells.len() / 5);
+    for call in [Call::Word, Call::IsReady] {
+        tally.compare(&Input { cells, place, ..Input::of(call) });
+    }
+}
+
+/// Breaks one rule, each in its turn, and gives the tree to every call that checks it.
+fn break_one(random: &Random, tally: &mut Tally, draft: &Draft, round: usize) {
+    for turn in 0..4 {
+        let (tree, cells) = broken(random, draft, BREAKS[(4 * round + turn) % BREAKS.len()]);
+        check(tally, &tree, &cells, Some(1));
+        give_all(random, tally, draft, &tree, &cells);
+    }
+}
+
+/// Changes bytes of a form at random: mostly unsound, now and then another sound tree.
+fn change(random: &Random, tally: &mut Tally, draft: &Draft) {
+    let mut tree = draft.form();
+    let mut cells = draft.cells(random);
+    for _ in 0..4 {
+        if random.once_in(4) {
+            random.mutate(&mut cells);
+        } else if random.once_in(3) || tree.is_empty() {
+            random.mutate(&mut tree);
+        } else {
+            let at = random.below(tree.len());
+            tree[at] = random.byte();
+        }
+        check(tally, &tree, &cells, None);
+        give_all(random, tally, draft, &tree, &cells);
+        if random.once_in(2) {
+            tree = draft.form();
+            cells = draft.cells(random);
+        }
+    }
+}
+
+fn give_all(random: &Random, tally: &mut Tally, draft: &Draft, tree: &[u8], cells: &[u8]) {
+    tally.compare(&Input { tree, cells, ..Input::of(Call::BeginCells) });
+    look(random, tally, cells);
+    post(random, tally, draft, tree, &mut cells.to_vec());
+    serve(random, tally, draft, tree, &mut cells.to_vec());
+    serve(random, tally, draft, tree, &mut cells.to_vec());
+}

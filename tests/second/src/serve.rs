@@ -1,0 +1,199 @@
+//! Requests answered ("Requests and replies", "Numbers returned").
+use crate::frame::{check_length, content, datagram_data, write_frame};
+use crate::request::{read_data, Request, COMMAND};
+use crate::tree::{Property, Tree, LIVE, READ, WRITE};
+use crate::writer::Writer;
+use crate::*;
+
+const ERROR: u8 = 0x54;
+const ACK: u8 = 0x55;
+const HOST_OFF: u8 = 0x57;
+const CONFLICT: u8 = 0x58;
+const ILLEGAL: u8 = 0x59;
+/// PDI 5.4: the status of a reading that is good.
+const STATUS_OK: u8 = 0x01;
+
+/// What a request came to: the number, the reply's length, the place of an action to be taken.
+#[derive(Clone, Copy, Debug, PartialEq)]
+pub struct Served {
+    pub number: u8,
+    pub len: usize,
+    pub action: u8,
+}
+
+fn refused(number: u8) -> Served {
+    Served { number, len: 0, action: NO_ACTION }
+}
+
+fn served(number: u8, writer: &Writer) -> Served {
+    Served { number, len: writer.len, action: NO_ACTION }
+}
+
+/// A tree that was checked, its cells, and the host switch.
+struct Device<'a> {
+    tree: Tree<'a>,
+    cells: &'a mut [u8],
+    host: bool,
+}
+
+/// What became of a write, and the text of op 5.
+struct Written {
+    save: u8,
+    text: &'static [u8],
+}
+
+impl Device<'_> {
+    /// Answers data of 1 to 256 bytes; the reply goes to the front of the output.
+    fn answer(&mut self, data: &[u8], out: &mut [u8]) -> Served {
+        let mut writer = Writer::new(out);
+        match self.perform(data, &mut writer) {
+            Ok(answer) => answer,
+            Err(number) => {
+                writer.byte(code(number));
+                served(number, &writer)
+            }
+        }
+    }
+
+    /// Refusals 9 to 12 come back as their number, with nothing written.
+    fn perform(&mut self, data: &[u8], writer: &mut Writer) -> Result<Served, u8> {
+        if !self.host {
+            return Err(DISABLED);
+        }
+        let request = read_data(data)?;
+        if request.op == 0 {
+            writer.byte(ACK);
+            return Ok(served(0, writer));
+        }
+        let node = self.tree.node(request.path()).ok_or(BAD_PARAMETER)?;
+        if request.op == 1 {
+            self.describe_node(&request, node, writer);
+            return Ok(served(0, writer));
+        }
+        let place = self.tree.property(node, request.index).ok_or(BAD_PARAMETER)?;
+        match request.op {
+            2 => self.describe_property(&request, place, writer),
+            3 => self.read(&request, place, writer)?,
+            _ => return Ok(self.write(&request, place, writer)),
+        }
+        Ok(served(0, writer))
+    }
+
+    fn describe_node(&self, request: &Request, node: usize, writer: &mut Writer) {
+        writer.bytes(&[COMMAND, request.op]);
+        writer.bytes(request.path());
+        writer.byte(self.tree.child_count(node));
+        writer.byte(self.tree.property_count(node));
+        writer.text(self.tree.nodes[node].name);
+    }
+
+    fn describe_property(&self, request: &Request, place: usize, writer: &mut Writer) {
+        let property = &self.tree.properties[place];
+        head(request, writer);
+        writer.byte(property.kind);
+        writer.bytes(&property.min.to_be_bytes());
+        writer.bytes(&property.max.to_be_bytes());
+        writer.bytes(&property.attribute.to_be_bytes());
+        writer.bytes(&property.format.to_be_bytes());
+        writer.text(property.label);
+        writer.bytes(property.texts);
+    }
+
+    fn read(&self, request: &Request, place: usize, writer: &mut Writer) -> Result<(), u8> {
+        let property = &self.tree.properties[place];
+        let open = property.has(LIVE) && !cells::is_ready(self.cells, place);
+        if !property.has(READ) || open {
+            return Err(NO_READING);
+        }
+        head(request, writer);
+        writer.byte(STATUS_OK);
+        writer.bytes(&cells::word(self.cells, place).to_be_bytes());
+        Ok(())
+    }
+
+    fn write(&mut self, request: &Request, place: usize, writer: &mut Writer) -> Served {
+        let written = try_write(&self.tree.properties[place], request.value);
+        if written.save == 1 {
+            cells::store(self.cells, place, request.value);
+        }
+        head(request, writer);
+        writer.byte(0);
+        writer.bytes(&request.value.to_be_bytes());
+        writer.byte(written.save);
+        if request.op == 5 {
+            writer.text(written.text);
+        }
+        let number = if written.save == 0 { NOT_SAVED } else { 0 };
+        let action = if written.save == 2 { place as u8 } else { NO_ACTION };
+        Served { number, len: writer.len, action }
+    }
+}
+
+/// The reply code of a refusal that is answered by one byte.
+fn code(number: u8) -> u8 {
+    match number {
+        DISABLED => HOST_OFF,
+        UNKNOWN_COMMAND => ILLEGAL,
+        NO_READING => CONFLICT,
+        _ => ERROR,
+    }
+}
+
+/// The bytes with which every reply to ops 2 to 5 begins.
+fn head(request: &Request, writer: &mut Writer) {
+    writer.bytes(&[COMMAND, request.op]);
+    writer.bytes(request.path());
+    writer.byte(request.index);
+}
+
+fn try_write(property: &Property, value: u32) -> Written {
+    if !property.has(WRITE) {
+        Written { save: 0, text: b"Read only" }
+    } else if property.is_action() {
+        Written { save: 2, text: b"" }
+    } else if property.in_range(value) {
+        Written { save: 1, text: b"" }
+    } else {
+        Written { save: 0, text: b"Range" }
+    }
+}
+
+/// The device, where tree and cells are sound and there is room: else 1, then 8.
+fn device<'a>(tree: &'a [u8], cells: &'a mut [u8], host: bool, room: usize, least: usize) -> Result<Device<'a>, u8> {
+    let tree = cells::checked(tree, cells).ok_or(UNSOUND)?;
+    if room < least {
+        return Err(NO_ROOM);
+    }
+    Ok(Device { tree, cells, host })
+}
+
+fn whole(result: Result<Served, u8>) -> Served {
+    result.unwrap_or_else(refused)
+}
+
+pub fn serve_data(tree: &[u8], cells: &mut [u8], host: bool, data: &[u8], out: &mut [u8]) -> Served {
+    whole(device(tree, cells, host, out.len(), ROOM_DATA).and_then(|mut device| {
+        check_length(data)?;
+        Ok(device.answer(data, out))
+    }))
+}
+
+pub fn serve_serial(tree: &[u8], cells: &mut [u8], host: bool, address: u8, string: &[u8], out: &mut [u8]) -> Served {
+    whole(device(tree, cells, host, out.len(), ROOM_SERIAL).and_then(|mut device| {
+        let content = content(string)?;
+        let mut reply = [0; ROOM_DATA];
+        let answer = device.answer(content.data(address)?, &mut reply);
+        let len = write_frame(address, &reply[..answer.len], out)?;
+        Ok(Served { len, ..answer })
+    }))
+}
+
+pub fn serve_udp(tree: &[u8], cells: &mut [u8], host: bool, datagram: &[u8], out: &mut [u8]) -> Served {
+    whole(device(tree, cells, host, out.len(), ROOM_UDP).and_then(|mut device| {
+        let data = datagram_data(datagram)?;
+        let (zeros, reply) = out.split_at_mut(4);
+        let answer = device.answer(data, reply);
+        zeros.fill(0);
+        Ok(Served { len: 4 + answer.len, ..answer })
+    }))
+}
