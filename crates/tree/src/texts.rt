@@ -20,19 +20,19 @@ pub(crate) enum Step {
 fn step_on(left: usize, b: u8) -> Step
     ensures { λ r. ⌜ r ≡ stepOf left b ⌝ }
 {
-    if b == 0 {
-        if left <= 1 {
-            return Step::Ended;
+    if 0x20 <= b {
+        if 0x7E < b {
+            return Step::Bad;
         }
-        return Step::On(left - 1);
+        return Step::On(left);
     }
-    if b < 0x20 {
+    if b != 0 {
         return Step::Bad;
     }
-    if 0x7E < b {
-        return Step::Bad;
+    if left <= 1 {
+        return Step::Ended;
     }
-    Step::On(left)
+    Step::On(left - 1)
 }
 
 // The lesser of the end of the bytes and a place so far behind another.
