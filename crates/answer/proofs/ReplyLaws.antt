@@ -4,19 +4,18 @@ use Prim.Native.Nat.{ℕ, _<_, _≤_}
 use native.Mathlib.Omega.{arith}
 use mathlib.Core.Path.{_≡_, sym, ap, _∙_}
 use mathlib.Core.List.{List, [], _∷_, _++_, append-assoc, map}
-use borrow.Author.Tests.{eq-eqb, ne-eqb, le-ltb}
+use borrow.Author.Tests.{eq-eqb, ne-eqb}
 use lib.ListN.{length, length-append, length-map, length-take}
-use Rattle.protocol.specs.Numbers.{done, roomData, opNode, opRecord, opRead, opWrite, statusOk, maxDepth}
+use Rattle.protocol.specs.Numbers.{roomData, opNode, opRecord, opRead, opWrite, statusOk, maxDepth}
 use Rattle.protocol.specs.Bytes.{half, word, text}
-use Rattle.protocol.specs.Frame.{ifRoom}
-use Rattle.protocol.specs.Buffer.{fitting, Put, Emits}
-use Rattle.protocol.specs.Request.{Request, Allowed, allowance, dataOf}
+use Rattle.protocol.specs.Buffer.{fitting, Put}
+use Rattle.protocol.specs.Request.{Request, Allowed, dataOf}
 use Rattle.protocol.specs.Tree.{Property, Tree, Cell, childrenOf, propertiesOf, nodeIn}
 use Rattle.protocol.specs.Answer.{Outcome, saveByte, reason, echoIndexed, recordTexts, nodeReply, recordReply, readReply, writeReply}
-use Rattle.protocol.proofs.BufferLaws.{puts-fit}
+use Rattle.protocol.proofs.BufferLaws.{put-fits, puts-fit}
+use Rattle.protocol.proofs.RequestLaws.{dataOf-size}
 use Rattle.request.specs.declared.Asked.{Asked}
-use Rattle.request.specs.Write.{writeRequest}
-use Rattle.request.proofs.WriteLaws.{data-path, data-index, data-value, put-as, fit-as, put-for}
+use Rattle.request.proofs.WriteLaws.{data-path, data-index, data-value, put-as, fit-as}
 use Rattle.tree.specs.declared.record.Fields.{Fields}
 use Rattle.tree.specs.Lent.{FieldsAre, numbersOf}
 use Rattle.answer.specs.declared.write.Outcome as written
@@ -31,12 +30,9 @@ pub path-short : (a : Asked) → Asks a → length (requestIn a .path) ≤ maxDe
 path-short a h = omega (arith, h .short, length-take (a .len) (a .path))
 
 -- The data of a request that the table allows is put.
-pub put-allowed : (r : Request) {old new : List ℕ} {n size : ℕ} → roomData ≤ length old → Allowed r
-    → Emits (writeRequest roomData (length old) dataOf r) old n size new → Put 0 (dataOf r) old size new
-unfolding writeRequest ifRoom
-put-allowed r {old} {n = n} h k e =
-    let number : n ≡ done = rw (le-ltb (length old) roomData h, eq-eqb (allowance r) done k) at (e .number) in
-    put-for roomData (length old) r e number .put
+pub put-allowed : (r : Request) {old new : List ℕ} {size : ℕ} → roomData ≤ length old → Allowed r → Put 0 (fitting 0 (dataOf r) old) old size new
+    → Put 0 (dataOf r) old size new
+put-allowed r h k p = put-fits (omega (arith, h, dataOf-size r k .1)) p
 
 -- A reply of two lists, and of three, put one behind the other.
 module _ {reply old : List ℕ} (room : length reply ≤ length old) where

@@ -39,8 +39,7 @@ fn put_request(asked: Asked, out: &mut [u8]) -> usize
 {
     let path = asked.path;
     let len = asked.len;
-    let w = request::write::write_data(asked.op, &path[..len], asked.index, asked.value, out);
-    w.len
+    request::write::put_data(asked.op, &path[..len], asked.index, asked.value, out)
 }
 
 // Op 1: how many children and properties, and the name.

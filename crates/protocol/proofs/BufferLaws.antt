@@ -4,12 +4,13 @@ use Prim.Native.Nat.{ℕ, _+_, _-_, _<_, _≤_}
 use native.Mathlib.Omega.{arith}
 use native.Mathlib.Nat.{zero-add, add-zero, add-assoc}
 use native.Mathlib.Numerals.{add-one}
+use native.Mathlib.Decide.{decLe}
 use mathlib.Core.Path.{_≡_, refl, sym, ap, ap₂, subst, _∙_}
 use mathlib.Core.List.{List, [], _∷_, _++_, append-assoc, append-nil}
 use borrow.Rule.Slice.PartMut.{putMid}
 use borrow.Author.Tests.{lt-ltb, le-ltb, eq-eqb, ne-eqb}
 use lib.ListN.{length, getD, take, drop, set, take-append-drop, drop-of-length-le, length-append, length-take, length-drop}
-use lib.Seq.{take-all, take-suc, length-take-le, set-split, take-at, drop-drop, drop-append-add}
+use lib.Seq.{take-all, take-append-le, take-append-add, take-suc, length-take-le, set-split, take-at, drop-drop, drop-append-add}
 use Rattle.protocol.specs.Buffer.{putAt, over, fitting, Put, Emits}
 use Rattle.protocol.specs.Numbers.{done, noRoom}
 use Rattle.protocol.specs.Frame.{Received, received, refused, sizeNumber, ifSized, ifRoom}
@@ -123,10 +124,54 @@ put-room {at} {r} {ys} {old} p k h =
 pub put-fits : {at r : ℕ} {ys old new : List ℕ} → at + length ys ≤ length old → Put at (fitting at ys old) old r new → Put at ys old r new
 put-fits {at} {r} {ys} {old} {new} h p = subst (λ l. Put at l old r new) (take-all (length old - at) ys (omega (arith, h))) p
 
+no-room : (n m : ℕ) → n ≤ m → n - m ≡ 0
+no-room n m h = omega arith
+
 -- The same behind other bytes.
 pub puts-fit : {at r r′ : ℕ} {ys old mid new : List ℕ} (zs : List ℕ) → Put at ys old r mid → at + length ys + length zs ≤ length old
     → Put r (fitting r zs mid) mid r′ new → Put at (ys ++ zs) old r′ new
 puts-fit zs p h q = puts (omega arith) p (put-fits (put-room p (length zs) h) q)
+
+-- Bytes put as far as there is room, and others behind them likewise: as both together.
+pub fits-join : {at r r′ : ℕ} {old mid new : List ℕ} (ys zs : List ℕ) → Put at (fitting at ys old) old r mid → Put r (fitting r zs mid) mid r′ new
+    → Put at (fitting at (ys ++ zs) old) old r′ new
+fits-join {at} {r} {r′} {old} {mid} {new} ys zs p q = go (decLe (at + length ys) (length old))
+  where
+    full : length old ≤ at + length ys → at ≤ length old → Put at (fitting at (ys ++ zs) old) old r′ new
+    full h k =
+        let size : length (fitting at ys old) ≡ length old - at = length-take-le (length old - at) ys (omega arith) in
+        let same : length mid ≡ length old = ap length (p .bytes) ∙ length-put old at (fitting at ys old) (omega (arith, size)) in
+        let none : fitting r zs mid ≡ [] = ap (λ n. take n zs) (no-room (length mid) r (omega (arith, p .next, size, same))) in
+        let both : Put at (fitting at ys old ++ []) old r′ new =
+        puts k p (subst (λ l. Put r l mid r′ new) none q) in
+        subst (λ l. Put at l old r′ new) (append-nil (fitting at ys old) ∙ sym (take-append-le (length old - at) ys zs (omega (arith, h)))) both
+
+    past : length old < at → Put at (fitting at (ys ++ zs) old) old r′ new
+    past h =
+        let shut : (l : List ℕ) → fitting at l old ≡ [] = λ l. ap (λ n. take n l) (no-room (length old) at (omega (arith, h))) in
+        let first : Put at [] old r mid = subst (λ l. Put at l old r mid) (shut ys) p in
+        let is : mid ≡ old = first .bytes ∙ sym (put-nil at old .bytes) in
+        let next : r ≡ at = omega (arith, first .next) in
+        let second : Put at (fitting at zs old) old r′ new = subst (λ l. Put at (fitting at zs l) l r′ new) is (subst (λ i. Put i (fitting i zs mid) mid r′ new) next q) in
+        subst (λ l. Put at l old r′ new) (shut zs ∙ sym (shut (ys ++ zs))) second
+
+    whole : at + length ys ≤ length old → Put at (fitting at (ys ++ zs) old) old r′ new
+    whole h =
+        let first : Put at ys old r mid = put-fits h p in
+        let same : length mid ≡ length old = ap length (first .bytes) ∙ length-put old at ys h in
+        let room : length mid - r ≡ length old - at - length ys = omega (arith, first .next, same) in
+        let sum : length old - at ≡ length ys + (length old - at - length ys) = omega (arith, h) in
+        subst (λ l. Put at l old r′ new)
+        (ap (λ n. ys ++ take n zs) room ∙ sym (ap (λ n. take n (ys ++ zs)) sum ∙ take-append-add ys zs (length old - at - length ys)))
+        (puts (omega arith) first q)
+
+    go : Dec (at + length ys ≤ length old) → Put at (fitting at (ys ++ zs) old) old r′ new
+    go (yes h) = whole h
+    go (no h) = short (decLe at (length old))
+      where
+        short : Dec (at ≤ length old) → Put at (fitting at (ys ++ zs) old) old r′ new
+        short (yes k) = full (omega (arith, h)) k
+        short (no k) = past (omega (arith, k))
 
 -- What was put from the front on is what a call emits.
 pub put-emits : {r : ℕ} {ys old new : List ℕ} → Put 0 ys old r new → Emits (received ys) old done r new

@@ -11,16 +11,15 @@ use frame::buffer;
 use protocol::DONE;
 use protocol::NO_ROOM;
 use protocol::PropertyIndex;
-use protocol::ROOM_DATA;
 use protocol::ROOM_SERIAL;
 use protocol::ROOM_UDP;
 ghost use mathlib.Core.Path.{_≡_};
 ghost use mathlib.Core.List.{_∷_};
 ghost use Prim.Native.Nat.{_≤_};
 ghost use lib.ListN.{length};
-ghost use Rattle.protocol.specs.Numbers.{roomData, roomSerial, roomUdp};
+ghost use Rattle.protocol.specs.Numbers.{roomSerial, roomUdp};
 ghost use Rattle.protocol.specs.Bytes.{word};
-ghost use Rattle.protocol.specs.Buffer.{Put, Emits};
+ghost use Rattle.protocol.specs.Buffer.{fitting, Put, Emits};
 ghost use Rattle.protocol.specs.Request.{allowance, dataOf, serialForm, udpForm};
 ghost use Rattle.request.specs.Asked.{requestOf};
 ghost use Rattle.request.specs.Write.{writeRequest};
@@ -39,10 +38,9 @@ fn tail_of(index: PropertyIndex, value: u32) -> [u8; 6]
     ]
 }
 
-// The data of a request, from the front of an output that has room for it.
-fn put_data(op: u8, path: &[u8], index: PropertyIndex, value: u32, out: &mut [u8]) -> usize
-    requires { ⌜ (length (now path) ≤ 16) × (24 ≤ length (now out)) ⌝ }
-    ensures { λ r. ⌜ Put 0 (dataOf (requestOf op (now (path .entry)) (index .0) value)) (now (out .entry)) r (now (out .exit)) ⌝ }
+// The data of a request, from the front of an output, as far as there is room.
+pub fn put_data(op: u8, path: &[u8], index: PropertyIndex, value: u32, out: &mut [u8]) -> usize
+    ensures { λ r. ⌜ Put 0 (fitting 0 (dataOf (requestOf op (now (path .entry)) (index .0) value)) (now (out .entry))) (now (out .entry)) r (now (out .exit)) ⌝ }
 {
     let head = [PDI, op];
     let named = buffer::put_all(&head, out, 0);
@@ -80,7 +78,7 @@ fn data_for(
     value: u32,
     payload: &mut [u8],
 ) -> Written
-    requires { ⌜ (least ≤ room → 24 ≤ length (now payload)) ⌝ }
+    requires { ⌜ 24 ≤ length (now payload) ⌝ }
     ensures { λ r. ⌜ Emits (writeRequest least room dataOf (requestOf op (now (path .entry)) (index .0) value)) (now (payload .entry)) (r .number) (r .len) (now (payload .exit)) ⌝ }
 {
     if room < least {
@@ -95,13 +93,6 @@ fn data_for(
     }
     let len = put_data(op, path, index, value, payload);
     Written { number: DONE, len }
-}
-
-// The data of a request written out: 8, 10, 11 or 0.
-pub fn write_data(op: u8, path: &[u8], index: PropertyIndex, value: u32, out: &mut [u8]) -> Written
-    ensures { λ r. ⌜ Emits (writeRequest roomData (length (now (out .entry))) dataOf (requestOf op (now (path .entry)) (index .0) value)) (now (out .entry)) (r .number) (r .len) (now (out .exit)) ⌝ }
-{
-    data_for(ROOM_DATA, out.len(), op, path, index, value, out)
 }
 
 // A request written out in a frame for an address: 8, 10, 11 or 0.

@@ -15,13 +15,13 @@ path-fits c = path-room (c .args .asked .path) (c .good .0 .1 .1 .1 .1 .0 .1 .0 
 array-share-prefix-path : tie.Need-array-share-prefix-path
 array-share-prefix-path c = path-fits (c .before .before)
 
-slice-aggregate-write-data : tie.Need-slice-aggregate-write-data
-slice-aggregate-write-data c =
+slice-aggregate-put-data : tie.Need-slice-aggregate-put-data
+slice-aggregate-put-data c =
     let start = c .before .before .before in
     part-size (start .args .asked .len) (start .args .asked .path) (path-fits start)
 
-write-data-requires : tie.Need-write-data-requires
-write-data-requires c κs = search needs
+put-data-requires : tie.Need-put-data-requires
+put-data-requires c κs = search needs
 
 same-length : tie.Need-same-length
 same-length c = search needs
@@ -30,14 +30,14 @@ returns : tie.Need-returns
 returns c =
     let put = c .before .before in
     let start = put .before .before .before .before .before in
-    put-allowed (requestIn (start .args .asked)) (start .pre .0) (start .pre .1 .allowed) (put .write-data .ensures)
+    put-allowed (requestIn (start .args .asked)) (start .pre .0) (start .pre .1 .allowed) (put .put-data .ensures)
 
 pub put-request-spec : {M : Type 1} → statement M
 put-request-spec =
     tie.close
     (tie.spec
     array-share-prefix-path
-    slice-aggregate-write-data
-    write-data-requires
+    slice-aggregate-put-data
+    put-data-requires
     same-length
     returns)

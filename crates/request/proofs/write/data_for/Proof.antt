@@ -1,9 +1,10 @@
 -- `request::write::data_for` meets its contract. Assumes nothing.
+use native.Mathlib.Omega.{arith}
 use mathlib.Core.Path.{sym, _∙_}
 use borrow.Author.Needs.{needs}
 use Rattle.protocol.specs.Request.{Request, Allowed, dataOf}
-use Rattle.protocol.proofs.BufferLaws.{put-emits}
-use Rattle.protocol.proofs.RequestLaws.{fitting, path-most}
+use Rattle.protocol.proofs.BufferLaws.{put-emits, put-fits}
+use Rattle.protocol.proofs.RequestLaws.{dataOf-size}
 use Rattle.request.specs.Asked.{requestOf}
 use Rattle.request.proofs.WriteLaws.{emits-unroomed, emits-unallowed, emits-allowed}
 use Rattle.request.proofs.write.data_for.Statement.{statement}
@@ -36,10 +37,7 @@ returns-2 c =
     (else1 .if1 .left) (c .before .allowance-of .ensures) (c .if2 .taken)
 
 put-data-requires : tie.Need-put-data-requires
-put-data-requires c κs =
-    let else2 = c .before in
-    let start = origin (else2 .before .before) in
-    (path-most (asked start) (fitting (asked start) (allowed else2) .rest), start .pre (else2 .before .before .if1 .left))
+put-data-requires c κs = search needs
 
 same-length : tie.Need-same-length
 same-length c = search needs
@@ -51,7 +49,7 @@ returns-3 c =
     let else1 = else2 .before .before in
     let start = origin else1 in
     emits-allowed (start .args .least) (start .args .room) dataOf (asked start) (start .args .payload .now)
-    (else1 .if1 .left) (allowed else2) (put-emits (put .put-data .ensures))
+    (else1 .if1 .left) (allowed else2) (put-emits (put-fits {ys = dataOf (asked start)} (omega (arith, start .pre, dataOf-size (asked start) (allowed else2) .1)) (put .put-data .ensures)))
 
 pub data-for-spec : {M : Type 1} → statement M
 data-for-spec =

@@ -6,9 +6,9 @@ use borrow.Author.Needs.{needs}
 use lib.ListN.{length, take}
 use Rattle.protocol.specs.Numbers.{PDI}
 use Rattle.protocol.specs.Bytes.{word}
-use Rattle.protocol.specs.Buffer.{Put}
-use Rattle.protocol.proofs.BufferLaws.{put-fits, puts-fit}
-use Rattle.request.proofs.WriteLaws.{data-path, data-index, data-value, put-as, fit-as, length-word, part-size}
+use Rattle.protocol.specs.Buffer.{fitting, Put}
+use Rattle.protocol.proofs.BufferLaws.{fits-join}
+use Rattle.request.proofs.WriteLaws.{data-path, data-index, data-value, fit-as, length-word, part-size}
 use Rattle.request.proofs.write.put_data.Statement.{statement}
 use Rattle.request.proofs.write.put_data.Tie as tie
 
@@ -17,11 +17,11 @@ abbrev origin : tie.After-put-all2 → tie.Start
 origin c = c .before .before .before .before .before .before .before .before .before
 
 with-path : (c : tie.After-put-all2)
-    → Put 0 (PDI ∷ origin c .args .op ∷ origin c .args .path .now) (origin c .args .out .now) (c .put-all2 .result) (c .put-all2 .last .1 .0)
+    → Put 0 (fitting 0 (PDI ∷ origin c .args .op ∷ origin c .args .path .now) (origin c .args .out .now)) (origin c .args .out .now) (c .put-all2 .result) (c .put-all2 .last .1 .0)
 with-path c =
     let start = origin c in
     let first = c .before .before .before .before in
-    puts-fit (start .args .path .now) (put-fits (omega (arith, start .pre .1)) (first .put-all .ensures)) (omega (arith, start .pre .0, start .pre .1)) (c .put-all2 .ensures)
+    fits-join (PDI ∷ start .args .op ∷ []) (start .args .path .now) (first .put-all .ensures) (c .put-all2 .ensures)
 
 abbrev pathed : tie.After-tail-of → tie.After-put-all2
 pathed c = c .before .before .before .before
@@ -42,7 +42,7 @@ returns : tie.Need-returns
 returns c =
     let all = c .before .before .before in
     let start = origin all in
-    put-as (data-path (start .args .op) (start .args .path .now) (start .args .index .0) (start .args .value) (c .if1 .taken)) (with-path all)
+    fit-as (data-path (start .args .op) (start .args .path .now) (start .args .index .0) (start .args .value) (c .if1 .taken)) (with-path all)
 
 tail-of-requires : tie.Need-tail-of-requires
 tail-of-requires c κs = search needs
@@ -68,9 +68,9 @@ returns-2 c =
     let tail = then2 .before in
     let else1 = tail .before in
     let start = origin (pathed tail) in
-    put-as
+    fit-as
     (data-index (start .args .op) (start .args .path .now) (start .args .index .0) (start .args .value) (else1 .if1 .left) (then2 .if2 .taken))
-    (puts-fit (start .args .index .0 ∷ []) (with-path (pathed tail)) (omega (arith, start .pre .0, start .pre .1))
+    (fits-join (PDI ∷ start .args .op ∷ start .args .path .now) (start .args .index .0 ∷ []) (with-path (pathed tail))
     (fit-as (ap (take 1) (tail .tail-of .ensures)) (put .put-all3 .ensures)))
 
 slice-aggregate-put-all-3 : tie.Need-slice-aggregate-put-all-3
@@ -88,8 +88,8 @@ returns-3 c =
     let else2 = put .before .before .before in
     let tail = else2 .before in
     let start = origin (pathed tail) in
-    put-as (data-value (start .args .op) (start .args .path .now) (start .args .index .0) (start .args .value) (else2 .if2 .left))
-    (puts-fit (start .args .index .0 ∷ 0 ∷ word (start .args .value)) (with-path (pathed tail)) (omega (arith, start .pre .0, start .pre .1, length-word (start .args .value)))
+    fit-as (data-value (start .args .op) (start .args .path .now) (start .args .index .0) (start .args .value) (else2 .if2 .left))
+    (fits-join (PDI ∷ start .args .op ∷ start .args .path .now) (start .args .index .0 ∷ 0 ∷ word (start .args .value)) (with-path (pathed tail))
     (fit-as (tail .tail-of .ensures) (put .put-all4 .ensures)))
 
 pub put-data-spec : {M : Type 1} → statement M
