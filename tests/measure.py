@@ -10,7 +10,7 @@ import sys
 FEW, MANY = 40, 240
 
 WHAT = {
-    "feed-alone": "`pq_feed`, one byte in a call (24 bytes of a frame and more), for a byte",
+    "feed-alone": "`pq_feed`, one byte in a call, from a frame with 20 bytes of data, for a byte",
     "feed-block": "`pq_feed`, a frame with 256 bytes of data in one call, for a byte",
     "read-request": "`pq_read_serial`, request of 10 bytes",
     "read-256": "`pq_read_serial`, frame with 256 bytes of data",

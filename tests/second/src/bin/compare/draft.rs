@@ -20,6 +20,14 @@ pub struct Draft {
     pub properties: Vec<DraftProperty>,
 }
 
+/// How nodes hang together: each below the one before, all below the device, or by chance.
+#[derive(Clone, Copy)]
+enum Shape {
+    Deep,
+    Flat,
+    Any,
+}
+
 fn text(random: &Random, most: usize) -> Vec<u8> {
     let len = match random.below(8) {
         0 => most,
@@ -116,23 +124,26 @@ impl Draft {
         let most = random.pick(&[1, 4, 8, 20, 64]);
         let count = random.between(1, most);
         let mut draft = Draft { nodes: Vec::new(), properties: Vec::new() };
-        let deep = random.once_in(3);
+        let shape = random.pick(&[Shape::Deep, Shape::Flat, Shape::Any]);
         for place in 0..count {
-            let parent = draft.draw_parent(random, place, deep);
+            let parent = draft.draw_parent(random, place, shape);
             draft.nodes.push((parent as u8, text(random, 23)));
         }
         let most = random.pick(&[0, 3, 6, 12, 128]);
+        let nodes = random.pick(&[1, count, count]);
         for _ in 0..random.between(0, most) {
-            draft.properties.push(DraftProperty::draw(random, count));
+            draft.properties.push(DraftProperty::draw(random, nodes));
         }
         draft
     }
 
-    fn draw_parent(&self, random: &Random, place: usize, deep: bool) -> usize {
-        if place == 0 {
-            return 0;
-        }
-        let parent = if deep { place - 1 } else { random.below(place) };
+    fn draw_parent(&self, random: &Random, place: usize, shape: Shape) -> usize {
+        let parent = match shape {
+            _ if place == 0 => return 0,
+            Shape::Deep => place - 1,
+            Shape::Flat => 0,
+            Shape::Any => random.below(place),
+        };
         if self.path(parent).len() < 16 {
             parent
         } else {
