@@ -27,7 +27,8 @@ enum Work {
     /// Bytes of a frame, fed so many at a time.
     Feed { bytes: Vec<u8>, block: usize, at: usize },
     ReadSerial { string: Vec<u8> },
-    Frame { data: Vec<u8> },
+    /// Data written by turns.
+    Frame { data: Vec<Vec<u8>>, at: usize },
     Serve { tree: Vec<u8>, cells: Vec<u8>, request: Vec<u8> },
     Check { tree: Vec<u8>, cells: Vec<u8> },
 }
@@ -54,6 +55,18 @@ fn written(data: &[u8]) -> Vec<u8> {
 /// Data of so many bytes, one in sixteen being 10h.
 fn sample(len: usize) -> Vec<u8> {
     (0..len).map(|at| (at as u8).wrapping_mul(0x1D) ^ 0x10).collect()
+}
+
+/// 256 bytes that follow no pattern, about one in eight being 10h.
+fn varied(seed: u64) -> Vec<u8> {
+    let mut state = seed.wrapping_mul(0x9E37_79B9_7F4A_7C15);
+    let mut draw = || {
+        state ^= state << 13;
+        state ^= state >> 7;
+        state ^= state << 17;
+        (state >> 24) as u16
+    };
+    (0..256).map(|_| draw()).map(|drawn| if drawn & 0x700 == 0 { 0x10 } else { drawn as u8 }).collect()
 }
 
 fn row(name: &str, units: usize, work: Work) -> Row {
@@ -94,8 +107,9 @@ fn rows() -> Vec<Row> {
         row("feed-block", len, Work::Feed { bytes: long.clone(), block: len, at: 0 }),
         row("read-request", 1, Work::ReadSerial { string: asked }),
         row("read-256", 1, Work::ReadSerial { string: long }),
-        row("frame-20", 1, Work::Frame { data: sample(20) }),
-        row("frame-256", 1, Work::Frame { data: sample(256) }),
+        row("frame-20", 1, Work::Frame { data: vec![sample(20)], at: 0 }),
+        row("frame-256", 1, Work::Frame { data: vec![sample(256)], at: 0 }),
+        row("frame-varied", 1, Work::Frame { data: (1..=256).map(varied).collect(), at: 0 }),
     ];
     tree_rows(&mut rows, "bench", bench::tree().write(), bench::CELLS.to_vec(), &[1, 2], 1);
     tree_rows(&mut rows, "largest", bench::largest().write(), vec![0; 640], &[1; 16], 2);
@@ -117,7 +131,10 @@ fn library_once(work: &mut Work, desk: &mut Desk) -> u8 {
             Work::ReadSerial { string } => pq_read_serial(
                 ADDRESS, string.as_ptr(), string.len(), &mut short, path.as_mut_ptr(), &mut long, &mut other, &mut value,
             ),
-            Work::Frame { data } => pq_frame(ADDRESS, data.as_ptr(), data.len(), out, out_len, &mut long),
+            Work::Frame { data, at } => {
+                let data = next_data(data, at);
+                pq_frame(ADDRESS, data.as_ptr(), data.len(), out, out_len, &mut long)
+            }
             Work::Serve { tree, cells, request } => {
                 let (lent, len) = (cells.as_mut_ptr(), cells.len());
                 let (asked, asked_len) = (request.as_ptr(), request.len());
@@ -138,7 +155,7 @@ fn second_once(work: &mut Work, desk: &mut Desk) -> u8 {
             black_box(stream::feed(&mut desk.state, ADDRESS, part, &mut desk.out)).number
         }
         Work::ReadSerial { string } => number(black_box(request::read_serial(ADDRESS, string))),
-        Work::Frame { data } => number(black_box(frame::write_frame(ADDRESS, data, &mut desk.out))),
+        Work::Frame { data, at } => number(black_box(frame::write_frame(ADDRESS, next_data(data, at), &mut desk.out))),
         Work::Serve { tree, cells, request } => {
             black_box(serve::serve_data(tree, cells, true, request, &mut desk.out)).number
         }
@@ -148,6 +165,14 @@ fn second_once(work: &mut Work, desk: &mut Desk) -> u8 {
 
 fn number<T>(result: Result<T, u8>) -> u8 {
     result.err().unwrap_or(0)
+}
+
+fn next_data<'a>(data: &'a [Vec<u8>], at: &mut usize) -> &'a [u8] {
+    *at += 1;
+    if *at >= data.len() {
+        *at = 0;
+    }
+    &data[*at]
 }
 
 /// The next bytes of a frame that is sent over and over.
