@@ -4,4 +4,4 @@
 set -e
 cd "$(dirname "$0")/.."
 . tests/build-second.sh
-valgrind --tool=memcheck --error-exitcode=1 --quiet target/second/release/compare "${1:-0.02}" ${2:+"$2"}
+valgrind --tool=memcheck --error-exitcode=1 --quiet target/second/release/compare "${1:-0.1}" ${2:+"$2"}

@@ -44,64 +44,93 @@ pub fn library(input: &Input) -> Seen {
     Seen { number, fields, lent }
 }
 
+/// A lent buffer as C takes it.
+fn lend(buffer: &mut [u8]) -> (*mut u8, usize) {
+    (buffer.as_mut_ptr(), buffer.len())
+}
+
 unsafe fn call(i: &Input, lent: &mut Lent, back: &mut Back) -> (u8, [u64; 5]) {
-    let (tree, tree_len) = (lent.tree.as_ptr(), lent.tree.len());
-    let (cells, cells_len) = (lent.cells.as_mut_ptr(), lent.cells.len());
-    let (state, state_len) = (lent.state.as_mut_ptr(), lent.state.len());
-    let (bytes, bytes_len) = (lent.bytes.as_ptr(), lent.bytes.len());
-    let (out, out_len) = (lent.out.as_mut_ptr(), lent.out.len());
-    let [long, more] = &mut back.long;
-    let [short, other] = &mut back.short;
-    let path = back.path.as_mut_ptr();
-    let one = |field: u64| [field, 0, 0, 0, 0];
+    match i.call {
+        Call::StateSize | Call::BeginStream | Call::Feed => call_stream(i, lent, back),
+        Call::ServeData | Call::ServeSerial | Call::ServeUdp => call_serve(i, lent, back),
+        Call::Frame | Call::Datagram | Call::WriteSerial | Call::WriteUdp => call_write(i, lent, back),
+        Call::ReadSerial | Call::ReadUdp => call_read(i, lent, back),
+        _ => call_cells(i, lent),
+    }
+}
+
+unsafe fn call_stream(i: &Input, lent: &mut Lent, back: &mut Back) -> (u8, [u64; 5]) {
+    let (state, state_len) = lend(&mut lent.state);
+    let (bytes, bytes_len) = lend(&mut lent.bytes);
+    let (out, out_len) = lend(&mut lent.out);
+    let [taken, len] = &mut back.long;
     match i.call {
         Call::StateSize => (0, one(pq_state_size() as u64)),
         Call::BeginStream => (pq_begin_stream(state, state_len), one(0)),
-        Call::Feed => {
-            let number = pq_feed(state, state_len, i.address, bytes, bytes_len, out, out_len, long, more);
-            (number, [*long as u64, *more as u64, 0, 0, 0])
+        _ => {
+            let number = pq_feed(state, state_len, i.address, bytes, bytes_len, out, out_len, taken, len);
+            (number, [*taken as u64, *len as u64, 0, 0, 0])
         }
+    }
+}
+
+unsafe fn call_cells(i: &Input, lent: &mut Lent) -> (u8, [u64; 5]) {
+    let (tree, tree_len) = lend(&mut lent.tree);
+    let (cells, cells_len) = lend(&mut lent.cells);
+    match i.call {
         Call::Check => (pq_check(tree, tree_len, cells, cells_len), one(0)),
         Call::CellsSize => (0, one(pq_cells_size(tree, tree_len) as u64)),
         Call::BeginCells => (pq_begin_cells(tree, tree_len, cells, cells_len), one(0)),
         Call::Post => (pq_post(tree, tree_len, cells, cells_len, i.place, i.value, i.ready), one(0)),
         Call::Word => (0, one(pq_word(cells, cells_len, i.place).into())),
         Call::IsReady => (0, one(pq_is_ready(cells, cells_len, i.place).into())),
-        Call::ServeData => {
-            let number =
-                pq_serve_data(tree, tree_len, cells, cells_len, i.host, bytes, bytes_len, out, out_len, long, short);
-            (number, back.served())
-        }
-        Call::ServeSerial => {
-            let number = pq_serve_serial(
-                tree, tree_len, cells, cells_len, i.host, i.address, bytes, bytes_len, out, out_len, long, short,
-            );
-            (number, back.served())
-        }
-        Call::ServeUdp => {
-            let number =
-                pq_serve_udp(tree, tree_len, cells, cells_len, i.host, bytes, bytes_len, out, out_len, long, short);
-            (number, back.served())
-        }
-        Call::Frame => (pq_frame(i.address, bytes, bytes_len, out, out_len, long), one(*long as u64)),
-        Call::Datagram => (pq_datagram(bytes, bytes_len, out, out_len, long), one(*long as u64)),
-        Call::ReadSerial => {
-            let number = pq_read_serial(i.address, bytes, bytes_len, short, path, long, other, &mut back.value);
-            (number, back.request())
-        }
-        Call::ReadUdp => {
-            let number = pq_read_udp(bytes, bytes_len, short, path, long, other, &mut back.value);
-            (number, back.request())
-        }
-        Call::WriteSerial => {
-            let number = pq_write_serial(i.address, i.op, bytes, bytes_len, i.index, i.value, out, out_len, long);
-            (number, one(*long as u64))
-        }
-        Call::WriteUdp => {
-            let number = pq_write_udp(i.op, bytes, bytes_len, i.index, i.value, out, out_len, long);
-            (number, one(*long as u64))
-        }
+        _ => unreachable!("{:?} is another group's", i.call),
     }
+}
+
+unsafe fn call_serve(i: &Input, lent: &mut Lent, back: &mut Back) -> (u8, [u64; 5]) {
+    let (tree, tree_len) = lend(&mut lent.tree);
+    let (cells, cells_len) = lend(&mut lent.cells);
+    let (bytes, bytes_len) = lend(&mut lent.bytes);
+    let (out, out_len) = lend(&mut lent.out);
+    let (len, action) = (&mut back.long[0], &mut back.short[0]);
+    let number = match i.call {
+        Call::ServeData => {
+            pq_serve_data(tree, tree_len, cells, cells_len, i.host, bytes, bytes_len, out, out_len, len, action)
+        }
+        Call::ServeSerial => pq_serve_serial(
+            tree, tree_len, cells, cells_len, i.host, i.address, bytes, bytes_len, out, out_len, len, action,
+        ),
+        _ => pq_serve_udp(tree, tree_len, cells, cells_len, i.host, bytes, bytes_len, out, out_len, len, action),
+    };
+    (number, back.served())
+}
+
+unsafe fn call_write(i: &Input, lent: &mut Lent, back: &mut Back) -> (u8, [u64; 5]) {
+    let (bytes, bytes_len) = lend(&mut lent.bytes);
+    let (out, out_len) = lend(&mut lent.out);
+    let len = &mut back.long[0];
+    let number = match i.call {
+        Call::Frame => pq_frame(i.address, bytes, bytes_len, out, out_len, len),
+        Call::Datagram => pq_datagram(bytes, bytes_len, out, out_len, len),
+        Call::WriteSerial => {
+            pq_write_serial(i.address, i.op, bytes, bytes_len, i.index, i.value, out, out_len, len)
+        }
+        _ => pq_write_udp(i.op, bytes, bytes_len, i.index, i.value, out, out_len, len),
+    };
+    (number, one(*len as u64))
+}
+
+unsafe fn call_read(i: &Input, lent: &mut Lent, back: &mut Back) -> (u8, [u64; 5]) {
+    let (bytes, bytes_len) = lend(&mut lent.bytes);
+    let path = back.path.as_mut_ptr();
+    let [op, index] = &mut back.short;
+    let (len, value) = (&mut back.long[0], &mut back.value);
+    let number = match i.call {
+        Call::ReadSerial => pq_read_serial(i.address, bytes, bytes_len, op, path, len, index, value),
+        _ => pq_read_udp(bytes, bytes_len, op, path, len, index, value),
+    };
+    (number, back.request())
 }
 
 /// The second implementation's answer to the same input.

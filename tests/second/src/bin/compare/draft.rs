@@ -20,6 +20,14 @@ pub struct Draft {
     pub properties: Vec<DraftProperty>,
 }
 
+/// How nodes hang together: each below the one before, all below the device, or by chance.
+#[derive(Clone, Copy)]
+enum Shape {
+    Deep,
+    Flat,
+    Any,
+}
+
 fn text(random: &Random, most: usize) -> Vec<u8> {
     let len = match random.below(8) {
         0 => most,
@@ -116,23 +124,26 @@ impl Draft {
         let most = random.pick(&[1, 4, 8, 20, 64]);
         let count = random.between(1, most);
         let mut draft = Draft { nodes: Vec::new(), properties: Vec::new() };
-        let deep = random.once_in(3);
+        let shape = random.pick(&[Shape::Deep, Shape::Flat, Shape::Any]);
         for place in 0..count {
-            let parent = draft.draw_parent(random, place, deep);
+            let parent = draft.draw_parent(random, place, shape);
             draft.nodes.push((parent as u8, text(random, 23)));
         }
         let most = random.pick(&[0, 3, 6, 12, 128]);
+        let nodes = random.pick(&[1, count, count]);
         for _ in 0..random.between(0, most) {
-            draft.properties.push(DraftProperty::draw(random, count));
+            draft.properties.push(DraftProperty::draw(random, nodes));
         }
         draft
     }
 
-    fn draw_parent(&self, random: &Random, place: usize, deep: bool) -> usize {
-        if place == 0 {
-            return 0;
-        }
-        let parent = if deep { place - 1 } else { random.below(place) };
+    fn draw_parent(&self, random: &Random, place: usize, shape: Shape) -> usize {
+        let parent = match shape {
+            _ if place == 0 => return 0,
+            Shape::Deep => place - 1,
+            Shape::Flat => 0,
+            Shape::Any => random.below(place),
+        };
         if self.path(parent).len() < 16 {
             parent
         } else {
@@ -246,8 +257,10 @@ pub fn broken(random: &Random, draft: &Draft, rule: Break) -> (Vec<u8>, Vec<u8>)
         draft.properties.push(DraftProperty::draw(random, draft.nodes.len()));
     }
     break_nodes(random, &mut draft, rule);
+    let nodes = draft.nodes.len();
     let place = random.below(draft.properties.len());
-    break_property(random, &mut draft, place, rule);
+    break_numbers(random, &mut draft.properties[place], nodes, rule);
+    break_texts(random, &mut draft.properties[place], rule);
     let mut cells = draft.cells(random);
     let mut tree = draft.form();
     break_form(random, &draft, &mut tree, rule);
@@ -302,19 +315,8 @@ fn break_parent(random: &Random, draft: &mut Draft) {
     draft.nodes[place].0 = random.pick(&[place, place + 1, count, 255]) as u8;
 }
 
-fn break_property(random: &Random, draft: &mut Draft, place: usize, rule: Break) {
-    let nodes = draft.nodes.len();
-    let property = &mut draft.properties[place];
+fn break_numbers(random: &Random, property: &mut DraftProperty, nodes: usize, rule: Break) {
     match rule {
-        Break::LabelCharacter => bad_character(random, &mut property.label),
-        Break::TextCharacter => {
-            let bad = random.pick(&[0x01, 0x1F, 0x7F, 0x80, 0xFF]);
-            property.texts.insert(0, bad);
-            if property.texts.len() > 160 {
-                property.texts.remove(1);
-            }
-        }
-        Break::LongLabel => property.label = vec![b'l'; random.between(24, 30)],
         Break::NoSuchNode => property.node = random.pick(&[nodes as u8, 255]),
         Break::Kind => property.kind = random.pick(&[0, 3, 4, 255]),
         Break::Range => property.standard(random.pick(&[0xFFFF_FFFF, 2, 0x8000_0000]), 1, random.pick(&[0, 0x7FFF])),
@@ -331,10 +333,25 @@ fn break_property(random: &Random, draft: &mut Draft, place: usize, rule: Break)
             property.enumerated(max, vec![0; max as usize + 1]);
             property.max = random.pick(&[max, max, 0xFFFF_FFFF, 0x8000_0000]);
         }
-        Break::FewOptions => property.enumerated(2, b"a\0b\0".to_vec()),
-        Break::ManyOptions => property.enumerated(2, b"a\0b\0c\0d\0".to_vec()),
         Break::LiveWrite => property.attribute = random.pick(&[0x2003, 0x2002, 0xFFFF]),
         Break::LiveNoRead => property.attribute = random.pick(&[0x2000, 0xE000, 0xFFFC]),
+        _ => {}
+    }
+}
+
+fn break_texts(random: &Random, property: &mut DraftProperty, rule: Break) {
+    match rule {
+        Break::LabelCharacter => bad_character(random, &mut property.label),
+        Break::TextCharacter => {
+            let bad = random.pick(&[0x01, 0x1F, 0x7F, 0x80, 0xFF]);
+            property.texts.insert(0, bad);
+            if property.texts.len() > 160 {
+                property.texts.remove(1);
+            }
+        }
+        Break::LongLabel => property.label = vec![b'l'; random.between(24, 30)],
+        Break::FewOptions => property.enumerated(2, b"a\0b\0".to_vec()),
+        Break::ManyOptions => property.enumerated(2, b"a\0b\0c\0d\0".to_vec()),
         Break::LongOptions => property.enumerated(1, [vec![b'o'; 80], vec![0], vec![b'p'; 79], vec![0]].concat()),
         Break::LongUnit => {
             property.standard(0, 0, 0);

@@ -10,6 +10,7 @@ mod library;
 mod random;
 mod requests;
 mod streams;
+mod sweep;
 mod tally;
 mod trees;
 
@@ -27,6 +28,9 @@ fn main() {
     let mut tally = Tally::new();
     println!("seed {seed}, times {times}");
     cases::run(&mut tally);
+    if times >= 1.0 {
+        sweep::run(&mut tally);
+    }
     for round in 0..(ROUNDS * times) as usize {
         trees::run(&random, &mut tally, round);
         requests::run(&random, &mut tally);

@@ -79,7 +79,7 @@ fn from_any_state(random: &Random, tally: &mut Tally, address: u8) {
             corrupt(random, &mut state);
         }
         let bytes = draw(random, address);
-        let bytes = &bytes[..random.below(bytes.len() + 1).min(700)];
+        let bytes = if random.once_in(6) { &[] } else { &bytes[..random.below(bytes.len() + 1).min(700)] };
         let mut input = Input { state: &state, bytes, address, ..Input::of(Call::Feed) };
         input.room = random.room(256);
         tally.compare(&input);

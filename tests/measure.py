@@ -1,0 +1,98 @@
+"""Runs the measuring program and writes the table of costs.
+
+Usage: measure.py PROGRAM OUTPUT. Time is the best of 100 runs in each of three processes; instructions are counted by callgrind, as the difference between
+two runs with different counts of calls, so that what a run costs but once drops out.
+"""
+import re
+import subprocess
+import sys
+
+FEW, MANY = 40, 240
+PROCESSES = 3
+
+WHAT = {
+    "feed-alone": "`pq_feed`, one byte in a call, from a frame with 20 bytes of data, for a byte",
+    "feed-block": "`pq_feed`, a frame with 256 bytes of data in one call, for a byte",
+    "read-request": "`pq_read_serial`, request of 10 bytes",
+    "read-256": "`pq_read_serial`, frame with 256 bytes of data",
+    "frame-20": "`pq_frame`, 20 bytes",
+    "frame-256": "`pq_frame`, 256 bytes, the same each time",
+    "frame-varied": "`pq_frame`, 256 bytes, 256 drawn strings by turns, one byte in eight 10h",
+}
+
+HEAD = """# What the calls cost
+
+Written by `tests/measure.sh`; the numbers are those of one run on one machine ({cpu}).
+
+*Ours* is the static library, called as C calls it. *Second* is the second implementation in `tests/second`, an ordinary Rust
+program written from the documents, built by rustc with `opt-level = 3`. Both work from the same lent bytes: for each request
+the second one, too, reads and checks the whole tree and the cells, since no call trusts an earlier check. Bounds of slices are
+tested at run time in the second one; it allocates two lists for a tree.
+
+- Time: nanoseconds for one call, the best of 100 runs of at least 2 ms each, the two sides by turns, in each of three processes.
+- Instructions: counted by `valgrind --tool=callgrind`, {many} calls less {few} calls, divided by {difference}.
+- The ratio is ours / second: under 1 the library is quicker.
+- The bench tree takes 159 bytes and has 3 nodes and 5 properties. The largest takes 27330 bytes: 64 nodes, 128 properties,
+  every text as long as it may be; requests go to a property of a node at depth 16.
+- Every row with a tree carries the check of that tree and of its cells, which is all of a `check` row.
+
+| Call | Ours, ns | Second, ns | Ratio | Ours, instructions | Second, instructions | Ratio |
+|---|---|---|---|---|---|---|
+"""
+
+
+def what(row):
+    if row in WHAT:
+        return WHAT[row]
+    call, tree = row.split("-")
+    tree = {"bench": "bench tree", "largest": "largest tree"}[tree]
+    if call == "check":
+        return f"`pq_check`, {tree}"
+    return f"`pq_serve_data`, op {call[2:]}, {tree}"
+
+
+def instructions(program, side, row, count):
+    command = ["valgrind", "--tool=callgrind", "--callgrind-out-file=/dev/null", program, "run", side, row, str(count)]
+    run = subprocess.run(command, capture_output=True, text=True, check=True)
+    return int(re.search(r"Collected\s*:\s*(\d+)", run.stderr).group(1))
+
+
+def per_call(program, side, row):
+    many, few = (instructions(program, side, row, count) for count in (MANY, FEW))
+    return (many - few) / (MANY - FEW)
+
+
+def best_times(program):
+    best = {}
+    for _ in range(PROCESSES):
+        timed = subprocess.run([program, "time"], capture_output=True, text=True, check=True).stdout
+        for line in timed.splitlines():
+            row, *times = line.split()
+            times = [float(time) for time in times]
+            best[row] = [min(pair) for pair in zip(times, best.get(row, times))]
+    return best
+
+
+def cpu():
+    with open("/proc/cpuinfo") as lines:
+        names = [line.split(":")[1].strip() for line in lines if line.startswith("model name")]
+    return names[0] if names else "x86-64"
+
+
+def main():
+    program, output = sys.argv[1:]
+    listed = subprocess.run([program, "rows"], capture_output=True, text=True, check=True).stdout
+    units = {row: int(count) for row, count in (line.split() for line in listed.splitlines())}
+    times = best_times(program)
+    text = HEAD.format(cpu=cpu(), many=MANY, few=FEW, difference=MANY - FEW)
+    for row in units:
+        costs = times[row] + [per_call(program, side, row) for side in ("library", "second")]
+        ours, second, ours_count, second_count = (cost / units[row] for cost in costs)
+        text += f"| {what(row)} | {ours:.1f} | {second:.1f} | {ours / second:.2f} "
+        text += f"| {ours_count:.1f} | {second_count:.1f} | {ours_count / second_count:.2f} |\n"
+    with open(output, "w") as table:
+        table.write(text)
+    print(text)
+
+
+main()

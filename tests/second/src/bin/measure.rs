@@ -1,0 +1,252 @@
+//! Costs of the library's calls and of the second implementation's, from the same lent bytes.
+//!
+//! measure rows               the names of the rows, each with its units for one call
+//! measure time               for each row: the best time for one call in nanoseconds, the library's and the second's
+//! measure run SIDE ROW N     N calls of one row, SIDE being library or second: for counting instructions
+#[allow(dead_code)]
+#[path = "../library.rs"]
+mod library;
+
+use library::*;
+use second::{bench, cells, frame, request, serve, stream};
+use std::hint::black_box;
+use std::time::{Duration, Instant};
+
+const ADDRESS: u8 = 0x3B;
+const REPEATS: usize = 100;
+const SLICE: Duration = Duration::from_millis(2);
+
+/// A row: its name, what it does, and how many units (bytes, or 1) one call is.
+struct Row {
+    name: String,
+    work: Work,
+    units: usize,
+}
+
+enum Work {
+    /// Bytes of a frame, fed so many at a time.
+    Feed { bytes: Vec<u8>, block: usize, at: usize },
+    ReadSerial { string: Vec<u8> },
+    /// Data written by turns.
+    Frame { data: Vec<Vec<u8>>, at: usize },
+    Serve { tree: Vec<u8>, cells: Vec<u8>, request: Vec<u8> },
+    Check { tree: Vec<u8>, cells: Vec<u8> },
+}
+
+/// Buffers that are lent over and over.
+struct Desk {
+    state: Vec<u8>,
+    out: Vec<u8>,
+}
+
+impl Desk {
+    fn new() -> Desk {
+        Desk { state: vec![0; stream::STATE_SIZE], out: vec![0; second::ROOM_SERIAL] }
+    }
+}
+
+fn written(data: &[u8]) -> Vec<u8> {
+    let mut out = vec![0; second::ROOM_SERIAL];
+    let len = frame::write_frame(ADDRESS, data, &mut out).unwrap();
+    out.truncate(len);
+    out
+}
+
+/// Data of so many bytes, one in sixteen being 10h.
+fn sample(len: usize) -> Vec<u8> {
+    (0..len).map(|at| (at as u8).wrapping_mul(0x1D) ^ 0x10).collect()
+}
+
+/// 256 bytes that follow no pattern, about one in eight being 10h.
+fn varied(seed: u64) -> Vec<u8> {
+    let mut state = seed.wrapping_mul(0x9E37_79B9_7F4A_7C15);
+    let mut draw = || {
+        state ^= state << 13;
+        state ^= state >> 7;
+        state ^= state << 17;
+        (state >> 24) as u16
+    };
+    (0..256).map(|_| draw()).map(|drawn| if drawn & 0x700 == 0 { 0x10 } else { drawn as u8 }).collect()
+}
+
+fn row(name: &str, units: usize, work: Work) -> Row {
+    Row { name: name.to_string(), work, units }
+}
+
+/// The request of an op for the property at a path and index.
+fn request_data(op: u8, path: &[u8], index: u8, value: u32) -> Vec<u8> {
+    let mut data = vec![0xB4, op];
+    if op >= 1 {
+        data.extend(path);
+    }
+    if op >= 2 {
+        data.push(index);
+    }
+    if op >= 4 {
+        data.push(0);
+        data.extend(value.to_be_bytes());
+    }
+    data
+}
+
+/// Each op on a tree, and the check of the tree.
+fn tree_rows(rows: &mut Vec<Row>, name: &str, tree: Vec<u8>, cells: Vec<u8>, path: &[u8], index: u8) {
+    for op in 0..=5 {
+        let request = request_data(op, path, index, 1);
+        rows.push(row(&format!("op{op}-{name}"), 1, Work::Serve { tree: tree.clone(), cells: cells.clone(), request }));
+    }
+    rows.push(row(&format!("check-{name}"), 1, Work::Check { tree, cells }));
+}
+
+fn rows() -> Vec<Row> {
+    let (short, long) = (written(&sample(20)), written(&sample(256)));
+    let len = long.len();
+    let asked = written(&request_data(4, &[1, 2], 1, 0x40));
+    let mut rows = vec![
+        row("feed-alone", 1, Work::Feed { bytes: short, block: 1, at: 0 }),
+        row("feed-block", len, Work::Feed { bytes: long.clone(), block: len, at: 0 }),
+        row("read-request", 1, Work::ReadSerial { string: asked }),
+        row("read-256", 1, Work::ReadSerial { string: long }),
+        row("frame-20", 1, Work::Frame { data: vec![sample(20)], at: 0 }),
+        row("frame-256", 1, Work::Frame { data: vec![sample(256)], at: 0 }),
+        row("frame-varied", 1, Work::Frame { data: (1..=256).map(varied).collect(), at: 0 }),
+    ];
+    tree_rows(&mut rows, "bench", bench::tree().write(), bench::CELLS.to_vec(), &[1, 2], 1);
+    tree_rows(&mut rows, "largest", bench::largest().write(), vec![0; 640], &[1; 16], 2);
+    rows
+}
+
+/// One call of the library.
+fn library_once(work: &mut Work, desk: &mut Desk) -> u8 {
+    let (out, out_len) = (desk.out.as_mut_ptr(), desk.out.len());
+    let (mut long, mut more, mut short, mut other, mut value) = (0, 0, 0, 0, 0);
+    let mut path = [0; 16];
+    unsafe {
+        match work {
+            Work::Feed { bytes, block, at } => {
+                let part = next_part(bytes, *block, at);
+                let state = desk.state.as_mut_ptr();
+                pq_feed(state, desk.state.len(), ADDRESS, part.as_ptr(), part.len(), out, out_len, &mut long, &mut more)
+            }
+            Work::ReadSerial { string } => pq_read_serial(
+                ADDRESS, string.as_ptr(), string.len(), &mut short, path.as_mut_ptr(), &mut long, &mut other, &mut value,
+            ),
+            Work::Frame { data, at } => {
+                let data = next_data(data, at);
+                pq_frame(ADDRESS, data.as_ptr(), data.len(), out, out_len, &mut long)
+            }
+            Work::Serve { tree, cells, request } => {
+                let (lent, len) = (cells.as_mut_ptr(), cells.len());
+                let (asked, asked_len) = (request.as_ptr(), request.len());
+                pq_serve_data(
+                    tree.as_ptr(), tree.len(), lent, len, 1, asked, asked_len, out, out_len, &mut long, &mut short,
+                )
+            }
+            Work::Check { tree, cells } => pq_check(tree.as_ptr(), tree.len(), cells.as_ptr(), cells.len()),
+        }
+    }
+}
+
+/// One call of the second implementation.
+fn second_once(work: &mut Work, desk: &mut Desk) -> u8 {
+    match work {
+        Work::Feed { bytes, block, at } => {
+            let part = next_part(bytes, *block, at);
+            black_box(stream::feed(&mut desk.state, ADDRESS, part, &mut desk.out)).number
+        }
+        Work::ReadSerial { string } => number(black_box(request::read_serial(ADDRESS, string))),
+        Work::Frame { data, at } => number(black_box(frame::write_frame(ADDRESS, next_data(data, at), &mut desk.out))),
+        Work::Serve { tree, cells, request } => {
+            black_box(serve::serve_data(tree, cells, true, request, &mut desk.out)).number
+        }
+        Work::Check { tree, cells } => cells::check(tree, cells),
+    }
+}
+
+fn number<T>(result: Result<T, u8>) -> u8 {
+    result.err().unwrap_or(0)
+}
+
+fn next_data<'a>(data: &'a [Vec<u8>], at: &mut usize) -> &'a [u8] {
+    *at += 1;
+    if *at >= data.len() {
+        *at = 0;
+    }
+    &data[*at]
+}
+
+/// The next bytes of a frame that is sent over and over.
+fn next_part<'a>(bytes: &'a [u8], block: usize, at: &mut usize) -> &'a [u8] {
+    if *at + block > bytes.len() {
+        *at = 0;
+    }
+    let part = &bytes[*at..*at + block];
+    *at += block;
+    part
+}
+
+fn run(row: &mut Row, library: bool, count: usize) {
+    let mut desk = Desk::new();
+    for _ in 0..count {
+        let work = black_box(&mut row.work);
+        black_box(if library { library_once(work, &mut desk) } else { second_once(work, &mut desk) });
+    }
+}
+
+fn timed(row: &mut Row, library: bool, count: usize) -> Duration {
+    let start = Instant::now();
+    run(row, library, count);
+    start.elapsed()
+}
+
+/// How many calls fill a slice of time.
+fn filling(row: &mut Row, library: bool) -> usize {
+    let mut count = 1;
+    while timed(row, library, count) < SLICE {
+        count *= 2;
+    }
+    count
+}
+
+/// The best times for one call in nanoseconds, the library's and the second's, measured by turns.
+fn best(row: &mut Row) -> [f64; 2] {
+    let sides = [true, false];
+    let counts = sides.map(|library| filling(row, library));
+    let mut best = [f64::MAX; 2];
+    for _ in 0..REPEATS {
+        for side in 0..2 {
+            let time = timed(row, sides[side], counts[side]).as_nanos() as f64 / counts[side] as f64;
+            best[side] = best[side].min(time);
+        }
+    }
+    best
+}
+
+/// Both must come to the same number, and to 0 where the row means a good request.
+fn agree(row: &mut Row) -> bool {
+    let ours = library_once(&mut row.work, &mut Desk::new());
+    if let Work::Feed { at, .. } = &mut row.work {
+        *at = 0;
+    }
+    ours == second_once(&mut row.work, &mut Desk::new()) && (ours == 0 || !row.name.starts_with("op"))
+}
+
+fn main() {
+    let arguments: Vec<String> = std::env::args().skip(1).collect();
+    let mut rows = rows();
+    match arguments.iter().map(String::as_str).collect::<Vec<_>>()[..] {
+        ["rows"] => rows.iter().for_each(|row| println!("{} {}", row.name, row.units)),
+        ["time"] => {
+            for row in &mut rows {
+                assert!(agree(row), "{}", row.name);
+                let [ours, seconds] = best(row);
+                println!("{} {ours:.2} {seconds:.2}", row.name);
+            }
+        }
+        ["run", side, name, count] => {
+            let row = rows.iter_mut().find(|row| row.name == name).expect("a row");
+            run(row, side == "library", count.parse().expect("a count"));
+        }
+        _ => panic!("usage: measure rows | time | run SIDE ROW N"),
+    }
+}
