@@ -1,20 +1,9 @@
 // A line for each case: its name, the number returned, and the bytes written in hex.
 use libc::STDOUT_FILENO;
-ghost use Prim.Native.Nat.{_<_};
-
-fn digit(n: u8) -> u8
-    requires { ⌜ n < 16 ⌝ }
-{
-    if n < 10 {
-        return 48 + n;
-    }
-    55 + n
-}
 
 fn show_byte(b: u8) {
-    let high = digit(b / 16);
-    let low = digit(b % 16);
-    io::write_all(STDOUT_FILENO, &[high, low]);
+    let digits = console::text::hex_byte(b);
+    io::write_all(STDOUT_FILENO, &digits);
 }
 
 fn show_bytes(bytes: &[u8]) {
