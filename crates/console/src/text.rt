@@ -19,13 +19,21 @@ fn hex_digit(n: u8) -> u8
 }
 
 // A byte in two hex digits.
+pub fn hex_byte(b: u8) -> [u8; 2]
+    ensures { λ r. ⌜ r ≡ hexByte b ⌝ }
+{
+    let high = hex_digit(b / 16);
+    let low = hex_digit(b % 16);
+    [high, low]
+}
+
+// The same, put at a place.
 pub(crate) fn put_hex_byte(out: &mut [u8], at: usize, b: u8) -> usize
     requires { ⌜ at + 2 ≤ length (now out) ⌝ }
     ensures { λ r. ⌜ Put at (hexByte b) (now (out .entry)) r (now (out .exit)) ⌝ }
 {
-    let high = hex_digit(b / 16);
-    let low = hex_digit(b % 16);
-    buffer::put_all(&[high, low], out, at)
+    let digits = hex_byte(b);
+    buffer::put_all(&digits, out, at)
 }
 
 // Bytes in hex.

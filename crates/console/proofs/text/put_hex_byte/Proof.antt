@@ -1,18 +1,14 @@
 -- `console::text::put_hex_byte` meets its contract. Assumes nothing.
 use native.Mathlib.Omega.{arith}
-use mathlib.Core.Path.{ap₂, subst}
-use mathlib.Core.List.{[], _∷_}
-use Rattle.protocol.specs.Buffer.{Put}
+use mathlib.Core.Path.{subst}
+use Rattle.protocol.specs.Buffer.{Put, fitting}
 use Rattle.protocol.proofs.BufferLaws.{put-fits}
 use borrow.Author.Needs.{needs}
 use Rattle.console.proofs.text.put_hex_byte.Statement.{statement}
 use Rattle.console.proofs.text.put_hex_byte.Tie as tie
 
-hex-digit-requires : tie.Need-hex-digit-requires
-hex-digit-requires c κs = search needs
-
-hex-digit-requires-2 : tie.Need-hex-digit-requires-2
-hex-digit-requires-2 c κs = search needs
+hex-byte-requires : tie.Need-hex-byte-requires
+hex-byte-requires c κs = search needs
 
 slice-aggregate-put-all : tie.Need-slice-aggregate-put-all
 slice-aggregate-put-all c = search needs
@@ -26,19 +22,14 @@ same-length c = search needs
 returns : tie.Need-returns
 returns c =
     let put = c .before .before in
-    let low = put .before .before .before in
-    let start = low .before .before .before in
-    subst (λ l. Put (start .args .at) l (start .args .out .now) (put .put-all .result) (put .put-all .last .1 .0))
-    (ap₂ (λ x y. x ∷ y ∷ []) (low .before .hex-digit .ensures) (low .hex-digit2 .ensures))
-    (put-fits (omega (arith, start .pre)) (put .put-all .ensures))
+    let digits = put .before .before .before in
+    let start = digits .before .before in
+    let at = start .args .at in
+    let out = start .args .out .now in
+    put-fits (omega (arith, start .pre))
+    (subst (λ l. Put at (fitting at l out) out (put .put-all .result) (put .put-all .last .1 .0)) (digits .hex-byte .ensures) (put .put-all .ensures))
 
 pub put-hex-byte-spec : {M : Type 1} → statement M
 put-hex-byte-spec =
     tie.close
-    (tie.spec
-    hex-digit-requires
-    hex-digit-requires-2
-    slice-aggregate-put-all
-    put-all-requires
-    same-length
-    returns)
+    (tie.spec hex-byte-requires slice-aggregate-put-all put-all-requires same-length returns)

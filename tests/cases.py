@@ -1,0 +1,529 @@
+"""The second program of document 01: what crates/cases must print, worked out anew from documents 01 and 003.
+
+Usage: cases.py            prints the expected lines (crates/cases/stdout)
+       cases.py program    prints the cases as Rattle source (crates/cases/src/main.rt)
+       cases.py trees      prints the trees in their lent form as Rattle source (crates/cases/src/trees.rt)
+Nothing here was taken from the program's output. Each case: name, call, arguments; the answer is worked out by the rules below,
+and `SAYS` holds the answers that the documents print in full, which the rules are compared with.
+"""
+import sys
+
+H = bytes.fromhex
+
+
+# 01, Frames on the wire.
+def double(bs):
+    return b"".join(b"\x10\x10" if b == 0x10 else bytes([b]) for b in bs)
+
+
+def frame(address, data):
+    content = bytes([address]) + data
+    content += bytes([255 - sum(content) % 256])
+    return b"\x10\x02" + double(content) + b"\x10\x03"
+
+
+def size(data):
+    return 4 if len(data) == 0 else 5 if len(data) > 256 else 0
+
+
+def judge(address, content):
+    if len(content) < 3:
+        return 4, b""
+    if len(content) > 258:
+        return 5, b""
+    if sum(content) % 256 != 255:
+        return 6, b""
+    if content[0] != address:
+        return 7, b""
+    return 0, content[1:-1]
+
+
+def string(address, s):
+    if s[:2] != b"\x10\x02":
+        return 2, b""
+    content, i = b"", 2
+    while i < len(s):
+        pair = s[i : i + 2]
+        if pair == b"\x10\x03":
+            return judge(address, content) if i + 2 == len(s) else (3, b"")
+        if pair == b"\x10\x10":
+            content, i = content + b"\x10", i + 2
+        elif s[i] == 0x10:
+            return 3, b""
+        else:
+            content, i = content + s[i : i + 1], i + 1
+    return 3, b""
+
+
+def datagram(s):
+    if s[:4] != bytes(4):
+        return 2, b""
+    return size(s[4:]), s[4:] if size(s[4:]) == 0 else b""
+
+
+# 01, The stream. The reader is [inside, a 10h waits, content].
+def feed(reader, address, bs):
+    for b in bs:
+        inside, waits, content = reader
+        if not waits and b == 0x10:
+            reader[1] = True
+        elif not inside:
+            reader[:] = [waits and b == 0x02, False, b""]
+        elif waits and b == 0x03:
+            reader[:] = [False, False, b""]
+            return judge(address, content)
+        elif waits and b == 0x02:
+            reader[:] = [True, False, b""]
+        elif waits and b != 0x10:
+            reader[:] = [False, False, b""]
+            return 3, b""
+        elif len(content) == 258:
+            reader[:] = [False, False, b""]
+            return 5, b""
+        else:
+            reader[:] = [True, False, content + bytes([b])]
+    return 255, b""
+
+
+# 01, Requests and replies. A request: op, path, index, value.
+def request(d):
+    if d[0] != 0xB4:
+        return 10, None
+    if len(d) == 1:
+        return 11, None
+    op, rest = d[1], d[2:]
+    if op > 5:
+        return 10, None
+    if op == 0:
+        return (0, (0, b"", 0, 0)) if rest == b"" else (11, None)
+    if op in (4, 5):
+        if len(rest) < 5 or rest[-5] != 0:
+            return 11, None
+        rest, value = rest[:-5], int.from_bytes(rest[-4:], "big")
+    else:
+        value = 0
+    path, index = (rest, 0) if op == 1 else (rest[:-1], rest[-1] if rest else 0)
+    if not 1 <= len(path) <= 16 or 0 in path or (op != 1 and index == 0):
+        return 11, None
+    return 0, (op, path, index, value)
+
+
+def written(op, path, index, value):
+    if op > 5:
+        return 10, b""
+    empty = [path == b"", index == 0, value == 0]
+    good = 1 <= len(path) <= 16 and 0 not in path
+    allowed = {0: all(empty), 1: good and empty[1] and empty[2]}.get(op, good and not empty[1] and (op > 3 or empty[2]))
+    if not allowed:
+        return 11, b""
+    d = bytes([0xB4, op]) + path + (bytes([index]) if op > 1 else b"") + (b"\0" + value.to_bytes(4, "big") if op > 3 else b"")
+    return 0, d
+
+
+# 01, The tree. A node: parent, name. A property: node, type, min, max, attribute, format, label, texts, word, ready.
+class Tree:
+    def __init__(self, nodes, properties):
+        self.nodes, self.properties = nodes, properties
+        self.cells = [[p[8], p[9]] for p in properties]
+
+    def children(self, n):
+        return [i for i, (parent, _) in enumerate(self.nodes) if i > 0 and parent == n]
+
+    def owned(self, n):
+        return [i for i, p in enumerate(self.properties) if p[0] == n]
+
+    def find(self, path):
+        if path[0] != 1:
+            return None
+        n = 0
+        for b in path[1:]:
+            if b > len(self.children(n)):
+                return None
+            n = self.children(n)[b - 1]
+        return n
+
+    def form(self):
+        out, at = bytes([len(self.nodes), len(self.properties)]), 2 + 3 * len(self.nodes) + 16 * len(self.properties)
+        texts = b""
+        for parent, name in self.nodes:
+            out += bytes([parent]) + (at + len(texts)).to_bytes(2, "big")
+            texts += name + b"\0"
+        for node, kind, least, most, attribute, fmt, label, options, _, _ in self.properties:
+            out += bytes([node, kind]) + least.to_bytes(4, "big") + most.to_bytes(4, "big") + attribute.to_bytes(2, "big")
+            out += fmt.to_bytes(2, "big") + (at + len(texts)).to_bytes(2, "big")
+            texts += b"".join(t + b"\0" for t in [label] + options)
+        return out + texts
+
+    def cell_bytes(self):
+        return b"".join(w.to_bytes(4, "big") + bytes([r]) for w, r in self.cells)
+
+
+def signed(x, fmt):
+    return x - 2**32 if fmt >> 15 and x >> 31 else x
+
+
+def serve(tree, host, d):
+    if size(d):
+        return size(d), b""
+    if not host:
+        return 9, b"\x57"
+    number, asked = request(d)
+    if number:
+        return number, b"\x59" if number == 10 else b"\x54"
+    op, path, index, value = asked
+    if op == 0:
+        return 0, b"\x55"
+    n = tree.find(path)
+    if n is None or (op > 1 and index > len(tree.owned(n))):
+        return 11, b"\x54"
+    if op == 1:
+        return 0, d + bytes([len(tree.children(n)), len(tree.owned(n))]) + tree.nodes[n][1] + b"\0"
+    place = tree.owned(n)[index - 1]
+    _, kind, least, most, attribute, fmt, label, options, _, _ = tree.properties[place]
+    cell = tree.cells[place]
+    reads, writes, live = attribute & 1, attribute & 2, attribute & 0x2000
+    if op == 2:
+        numbers = bytes([kind]) + least.to_bytes(4, "big") + most.to_bytes(4, "big") + attribute.to_bytes(2, "big") + fmt.to_bytes(2, "big")
+        return 0, d + numbers + b"".join(t + b"\0" for t in [label] + options)
+    if op == 3:
+        # 003, 5.4: status 01 is OK.
+        return (0, d + b"\x01" + cell[0].to_bytes(4, "big")) if reads and (not live or cell[1]) else (12, b"\x58")
+    if kind == 2:
+        fits = value <= most
+    else:
+        fits = (least, most) == (0, 0) or signed(least, fmt) <= signed(value, fmt) <= signed(most, fmt)
+    if not writes:
+        number, save, text = 13, 0, b"Read only"
+    elif not reads:
+        number, save, text = 0, 2, b""
+    elif not fits:
+        number, save, text = 13, 0, b"Range"
+    else:
+        cell[0] = value
+        number, save, text = 0, 1, b""
+    return number, d + bytes([save]) + (text + b"\0" if op == 5 else b"")
+
+
+# 01, Bench tree and its cases.
+def bench():
+    probe = lambda name, word, ready: (1, 1, 0, 0, 0x2001, 0x8002, name, [b"C"], word, ready)
+    return Tree(
+        [(0, b"Box"), (0, b"Live"), (0, b"Setup")],
+        [probe(b"Probe 1", 2100, 1), probe(b"Probe 2", 8500, 0), (2, 1, 1, 64, 3, 0, b"Average", [b""], 4, 0),
+         (2, 2, 0, 1, 3, 0x1080, b"Rate", [b"Slow", b"Fast"], 0, 0), (2, 1, 0, 0, 2, 0, b"Restart", [b""], 0, 0)],
+    )
+
+
+# 01, Wrong builds: a setting with min and max 0, of type 1 and of type 2, and one that is signed.
+def limits():
+    return Tree([(0, b"Box")], [(0, 1, 0, 0, 3, 0, b"Free", [b""], 0, 0), (0, 2, 0, 0, 3, 0, b"One", [b"Only"], 0, 0),
+                                (0, 1, 0xFFFFFFFE, 2, 3, 0x8000, b"Signed", [b""], 0, 0)])
+
+
+# 003, section 5: as much of PENKO's 1020 as its examples name, each at the path that is printed there.
+def penko():
+    nodes = [(0, b"1020")]
+
+    def add(parent, count):
+        nodes.extend((parent, b"") for _ in range(count))
+        return list(range(len(nodes) - count, len(nodes)))
+
+    top = add(0, 6)
+    live, setup, control = add(top[0], 10), add(top[2], 10), add(top[5], 1)
+    nodes[live[9]] = (top[0], b"Totals")
+    add(live[9], 4)
+    indicator = add(live[2], 2)
+    calibration = add(setup[1], 2)
+    weight = add(calibration[1], 1)
+    points = add(weight[0], 3)
+    output, settings, zero = add(setup[4], 1), add(setup[9], 1), add(control[0], 1)
+    flag = lambda word: (indicator[1], 1, 0, 0, 0x2001, 0, b"", [b""], word, 1)
+    properties = [
+        (live[9], 1, 0, 0, 3, 0, b"", [b""], 0, 0),
+        (indicator[0], 1, 0, 0, 0x2001, 0xC003, b"Weigher", [b"Kg"], 0x33C, 1),
+        *[flag(0)] * 8, flag(1),
+        (settings[0], 2, 0, 1, 3, 0x1080, b"Layout", [b"Ticket", b"Line"], 0, 0),
+        (output[0], 1, 0, 0, 3, 0, b"Setpoint", [b""], 0, 0),
+        (zero[0], 1, 0, 0, 2, 0, b"Set", [b""], 0, 0),
+        (zero[0], 1, 0, 0, 2, 0, b"Reset", [b""], 0, 0),
+        (points[2], 1, 0, 99999, 3, 0, b"Add", [b""], 0, 0),
+    ]
+    return Tree(nodes, properties)
+
+
+PING = frame(0, H("B400"))
+LONG_STRING = b"\x10\x02" + bytes(296) + b"\x10\x03"
+
+CASES = [
+    # 01, Bench tree and its cases: the three that are not marked.
+    ("01/address 10h", "write_frame", 0x10, H("B400")),
+    ("01/10 02 10 03", "read_frame", 0, H("10021003")),
+    ("01/10 02 00 10 10 03", "read_frame", 0, H("100200101003")),
+    ("01/10 02 10 03 fed", "feed", 0, H("10021003")),
+    # 01, Wrong builds.
+    ("wrong/10 10 03 in data", "feed", 0, frame(0, H("B4011003"))),
+    ("wrong/10 10 03 in data", "read_frame", 0, frame(0, H("B4011003"))),
+    ("wrong/sum of doubled", "write_frame", 0, H("10101010")),
+    ("wrong/checksum 10h", "write_frame", 0x3B, H("B400")),
+    ("wrong/checksum 10h", "read_frame", 0x3B, H("10023BB40010101003")),
+    ("wrong/checksum 10h", "read_frame", 0x3B, H("10023BB400101003")),
+    ("wrong/last zero", "data", H("B4040102030000000000")),
+    ("wrong/last zero", "data", H("B4040102020000000000")),
+    ("wrong/0 to 0", "limits", H("B40401010000000005")),
+    ("wrong/0 to 0, listed", "limits", H("B40401020000000001")),
+    ("wrong/signed", "limits", H("B404010300FFFFFFFF")),
+    ("wrong/signed", "limits", H("B40501030000000003")),
+    ("wrong/old word", "data", H("B4040101020000000001")),
+    ("wrong/4 stays", "twice", H("B4040102010000000041"), H("B403010201")),
+    ("wrong/40h stored", "twice", H("B4040102010000000040"), H("B403010201")),
+    # 01, Frames and the stream: every number of each call.
+    ("write_frame/8", "write_frame_no_room", 0, H("B400")),
+    ("write_frame/4", "write_frame", 0, b""),
+    ("write_frame/5", "write_frame", 0, bytes(257)),
+    ("read_frame/0", "read_frame", 0, PING),
+    ("read_frame/8", "read_frame_no_room", 0, b""),
+    ("read_frame/2", "read_frame", 0, H("10")),
+    ("read_frame/3", "read_frame", 0, PING + b"\0"),
+    ("read_frame/4", "read_frame", 0, H("100200FF1003")),
+    ("read_frame/5", "read_frame", 0, LONG_STRING),
+    ("read_frame/6", "read_frame", 0, H("100200B4004C1003")),
+    ("read_frame/7", "read_frame", 1, PING),
+    ("datagram/0", "datagram", H("00000000B400")),
+    ("datagram/2", "datagram", H("000000")),
+    ("datagram/2", "datagram", H("00000100B400")),
+    ("datagram/4", "datagram", H("00000000")),
+    ("datagram/5", "datagram", bytes(261)),
+    ("feed/255 noise 10h", "feed", 0, H("FF10") + PING),
+    ("feed/0", "feed", 0, H("FF") + PING),
+    ("feed/1", "feed_unsound", 0, PING),
+    ("feed/8", "feed_no_room", 0, PING),
+    ("feed/3", "feed", 0, H("1002001005")),
+    ("feed/5", "feed", 0, LONG_STRING),
+    ("feed/6", "feed", 0, H("100200B4004C1003")),
+    ("feed/7", "feed", 1, PING),
+    ("feed/255", "feed", 0, PING[:-1]),
+    ("feed/afresh", "feed", 0, H("1002FFFF") + PING),
+    ("feed/in two", "feed_twice", 0, PING[:-1], H("03")),
+    ("feed/in two", "feed_twice", 0, H("1002001005"), PING),
+    # 01, Requests: read and written out.
+    ("read_serial/0", "read_serial", 0, PING),
+    ("read_serial/0", "read_serial", 7, frame(7, H("B40501100200FFFF0001"))),
+    ("read_serial/2", "read_serial", 0, b""),
+    ("read_serial/3", "read_serial", 0, H("100200101003")),
+    ("read_serial/4", "read_serial", 0, H("10021003")),
+    ("read_serial/5", "read_serial", 0, LONG_STRING),
+    ("read_serial/6", "read_serial", 0, H("100200B4004C1003")),
+    ("read_serial/7", "read_serial", 1, PING),
+    ("read_serial/10", "read_serial", 0, frame(0, H("B406"))),
+    ("read_serial/11", "read_serial", 0, frame(0, H("B4010100"))),
+    ("read_udp/0", "read_udp", bytes(4) + H("B403010101")),
+    ("read_udp/2", "read_udp", H("000000")),
+    ("read_udp/4", "read_udp", bytes(4)),
+    ("read_udp/5", "read_udp", bytes(261)),
+    ("read_udp/10", "read_udp", bytes(5)),
+    ("read_udp/11", "read_udp", bytes(4) + H("B4")),
+    ("write_serial/0", "write_serial", 0x10, 4, H("0110"), 16, 0x10000010),
+    ("write_serial/8", "write_serial_no_room", 0, 9, b"", 0, 0),
+    ("write_serial/10", "write_serial", 0, 6, b"", 0, 0),
+    ("write_serial/11", "write_serial", 0, 1, H("0100"), 0, 0),
+    ("write_udp/0", "write_udp", 3, H("0101"), 1, 0),
+    ("write_udp/8", "write_udp_no_room", 9, b"", 0, 0),
+    ("write_udp/10", "write_udp", 6, b"", 0, 0),
+    ("write_udp/11", "write_udp", 3, H("0101"), 1, 5),
+    # 01, Serving: every number of each road.
+    ("serve_data/0", "data", H("B400")),
+    ("serve_data/0 op 1", "data", H("B40101")),
+    ("serve_data/0 op 2", "data", H("B402010202")),
+    ("serve_data/0 op 3", "data", H("B403010101")),
+    ("serve_data/0 op 5", "data", H("B4050102020000000001")),
+    ("serve_data/1", "data_unsound", H("B400")),
+    ("serve_data/8", "data_no_room", H("B400")),
+    ("serve_data/4", "data", b""),
+    ("serve_data/5", "data", bytes(257)),
+    ("serve_data/9", "data_off", H("FF")),
+    ("serve_data/10", "data", H("B406")),
+    ("serve_data/11", "data", H("B403010301")),
+    ("serve_data/11 shape", "data", H("B40401020100000000")),
+    ("serve_data/12", "data", H("B403010102")),
+    ("serve_data/12 action", "data", H("B403010203")),
+    ("serve_data/13", "data", H("B4050101010000000000")),
+    ("serve_data/13 range", "data", H("B4050102010000000000")),
+    ("serve_serial/0", "serial", 0, frame(0, H("B402010202"))),
+    ("serve_serial/0", "serial", 0x10, frame(0x10, H("B400"))),
+    ("serve_serial/1", "serial_unsound", PING),
+    ("serve_serial/8", "serial_no_room", PING),
+    ("serve_serial/2", "serial", 0, H("B400")),
+    ("serve_serial/3", "serial", 0, H("100200101003")),
+    ("serve_serial/4", "serial", 0, H("10021003")),
+    ("serve_serial/5", "serial", 0, LONG_STRING),
+    ("serve_serial/6", "serial", 0, H("100200B4004C1003")),
+    ("serve_serial/7", "serial", 1, PING),
+    ("serve_serial/9", "serial_off", 0, PING),
+    ("serve_serial/10", "serial", 0, frame(0, H("FF"))),
+    ("serve_serial/11", "serial", 0, frame(0, H("B4"))),
+    ("serve_serial/12", "serial", 0, frame(0, H("B403010102"))),
+    ("serve_serial/13", "serial", 0, frame(0, H("B4040102010000000041"))),
+    ("serve_udp/0", "udp", bytes(4) + H("B403010101")),
+    ("serve_udp/1", "udp_unsound", bytes(4) + H("B400")),
+    ("serve_udp/8", "udp_no_room", bytes(4) + H("B400")),
+    ("serve_udp/2", "udp", H("000000")),
+    ("serve_udp/4", "udp", bytes(4)),
+    ("serve_udp/5", "udp", bytes(261)),
+    ("serve_udp/9", "udp_off", bytes(4) + H("B400")),
+    ("serve_udp/10", "udp", bytes(4) + H("B4FF01")),
+    ("serve_udp/11", "udp", bytes(4) + H("B40102")),
+    ("serve_udp/12", "udp", bytes(4) + H("B403010102")),
+    ("serve_udp/13", "udp", bytes(4) + H("B4050101010000000000")),
+    ("post/0", "post", 1, 2150, 1),
+    ("post/0 not ready", "post", 0, 8500, 0),
+    ("post/1", "post_unsound", 1, 2150, 1),
+    ("post/14 no cell", "post", 5, 1, 1),
+    ("post/14 not live", "post", 2, 1, 1),
+    # 003: the checksum of a sum of 1234h, and the examples of section 5.
+    ("003/checksum", "write_frame", 0, b"\xFF" * 18 + b"\x46"),
+    ("003/5.1", "penko", H("B400")),
+    ("003/5.2 totals", "penko", H("B40101010A")),
+    ("003/5.3 weigher", "penko", H("B4020101030101")),
+    ("003/5.3 layout", "penko", H("B40201030A0101")),
+    ("003/5.4 weight", "penko", H("B4030101030101")),
+    ("003/5.4 tare", "penko", H("B4030101030209")),
+    ("003/5.5 setpoint", "penko", H("B404010305010100" "0000012C")),
+    ("003/5.5 zero", "penko", H("B404010601010100" "00000000")),
+    ("003/5.5 reset zero", "penko", H("B404010601010200" "00000000")),
+    ("003/5.6 zero point", "penko", H("B4050103020201030100" "00000000")),
+    ("003/5.6 gain point", "penko", H("B4050103020201030100" "000186A0")),
+]
+
+# What the documents print in full.
+SAYS = {
+    "01/address 10h": "0 10021010B4003B1003",
+    "01/10 02 10 03": "4 ",
+    "01/10 02 00 10 10 03": "3 ",
+    "wrong/4 stays": "13 B404010201000000004100",
+    "serve_data/0": "0 55",
+    "serve_data/0 op 1": "0 B401010200426F7800",
+    "serve_data/0 op 2": "0 B402010202020000000000000001000310805261746500536C6F77004661737400",
+    "serve_data/12": "12 58",
+    "serve_data/13": "13 B405010101000000000000526561" "64206F6E6C7900",
+    "003/5.2 totals": "0 B40101010A0401546F74616C7300",
+    "003/5.3 weigher": "0 B40201010301010100000000000000002001C00357656967686572004B6700",
+    "003/5.3 layout": "0 B40201030A010102000000000000000100031080" "4C61796F757400" "5469636B6574004C696E6500",
+    "003/5.4 weight": "0 B4030101030101010000033C",
+    "003/5.4 tare": "0 B40301010302090100000001",
+    "003/5.5 setpoint": "0 B4040103050101000000012C01",
+    "003/5.5 zero": "0 B4040106010101000000000002",
+    "003/5.5 reset zero": "0 B4040106010102000000000002",
+    "003/5.6 zero point": "0 B4050103020201030100000000000100",
+}
+
+
+def answers(call, args):
+    """Number and bytes, once or twice."""
+    no_room, unsound, off = call.endswith("_no_room"), call.endswith("_unsound"), call.endswith("_off")
+    base = call.removesuffix("_no_room").removesuffix("_unsound").removesuffix("_off")
+    tree = bench()
+    if base == "post":
+        place, word, ready = args
+        if unsound:
+            return [(1, bytes(24))]
+        live = place < 5 and tree.properties[place][4] & 0x2000
+        if live:
+            tree.cells[place] = [word if ready else tree.cells[place][0], ready]
+        return [(0 if live else 14, tree.cell_bytes())]
+    if no_room or unsound:
+        return [(8 if no_room else 1, b"")]
+    if base == "write_frame":
+        address, d = args
+        return [(size(d), frame(address, d) if size(d) == 0 else b"")]
+    if base == "read_frame":
+        return [string(*args)]
+    if base == "datagram":
+        return [datagram(*args)]
+    if base in ("feed", "feed_twice"):
+        reader = [False, False, b""]
+        return [feed(reader, args[0], bs) for bs in args[1:]]
+    if base in ("read_serial", "read_udp"):
+        number, d = string(*args) if base == "read_serial" else datagram(*args)
+        asked = None
+        if number == 0:
+            number, asked = request(d)
+        op, path, index, value = asked or (0, b"", 0, 0)
+        return [(number, path.ljust(16, b"\0")), (op, bytes([len(path), index]) + value.to_bytes(4, "big"))]
+    if base in ("write_serial", "write_udp"):
+        number, d = written(*args[-4:])
+        return [(number, b"" if number else frame(args[0], d) if base == "write_serial" else bytes(4) + d)]
+    if base in ("data", "twice", "limits", "penko"):
+        tree = {"limits": limits, "penko": penko}.get(base, bench)()
+        return [serve(tree, not off, d) for d in args]
+    number, d = string(*args) if base == "serial" else datagram(*args)
+    if number:
+        return [(number, b"")]
+    number, reply = serve(tree, not off, d)
+    return [(number, frame(args[0], reply) if base == "serial" else bytes(4) + reply)]
+
+
+def lines():
+    for name, call, *args in CASES:
+        for k, (number, bs) in enumerate(answers(call, args)):
+            says = f"{number} {bs.hex().upper()}"
+            if k == 0 and name in SAYS:
+                assert SAYS[name] == says, (name, says)
+            yield ("  op" if k == 1 and call.startswith("read_") else name) + ": " + says
+
+
+# The cases as Rattle source.
+def literal(x):
+    if isinstance(x, int):
+        return str(x)
+    if len(x) > 40 and not any(x):
+        return f"&[0u8; {len(x)}]"
+    if x == LONG_STRING:
+        return "&long_string()"
+    return 'b"' + "".join(f"\\x{b:02X}" for b in x) + '"'
+
+
+MODULE = {"data": "serve", "twice": "serve", "limits": "serve", "penko": "serve", "serial": "serve", "udp": "serve", "post": "serve"}
+
+
+def program():
+    print("// The cases of documents 01 and 003, a line each (tests/cases.py writes this file, and works out what it must print).")
+    print("mod serve;\nmod show;\nmod trees;\nmod wire;\n")
+    print("// A frame of 296 content bytes.\nfn long_string() -> [u8; 300] {\n    let mut s = [0u8; 300];")
+    print("    s[0] = 16;\n    s[1] = 2;\n    s[298] = 16;\n    s[299] = 3;\n    s\n}\n")
+    groups = [CASES[i : i + 8] for i in range(0, len(CASES), 8)]
+    for k, group in enumerate(groups):
+        print(f"fn cases_{k}() {{")
+        for name, call, *args in group:
+            base = call.removesuffix("_no_room").removesuffix("_unsound").removesuffix("_off")
+            module = MODULE.get(base, "wire")
+            values = [literal(a) for a in args]
+            if base == "post":
+                values[2] = "true" if args[2] else "false"
+            if module == "serve" and call in ("data", "serial", "udp", "data_off", "serial_off", "udp_off"):
+                values.insert(0, "false" if call.endswith("_off") else "true")
+                call = base
+            print(f'    {module}::{call}(b"{name}", {", ".join(values)});')
+        print("}\n")
+    print("fn main() {")
+    for k in range(len(groups)):
+        print(f"    cases_{k}();")
+    print("}")
+
+
+def trees():
+    print("// Trees in their lent form (docs/FORMATS.md), and their cells; written by tests/cases.py.")
+    for name, tree in (("limits", limits()), ("penko", penko())):
+        for what, bs in (("tree", tree.form()), ("cells", tree.cell_bytes())):
+            print(f"pub fn {name}_{what}() -> [u8; {len(bs)}] {{\n    [")
+            for i in range(0, len(bs), 20):
+                print("        " + ", ".join(str(b) for b in bs[i : i + 20]) + ",")
+            print("    ]\n}\n")
+
+
+if __name__ == "__main__":
+    if sys.argv[1:] == ["program"]:
+        program()
+    elif sys.argv[1:] == ["trees"]:
+        trees()
+    else:
+        print("\n".join(lines()))
