@@ -45,9 +45,11 @@ TAIL = """
 
 - Time depends on where the linker puts a loop. In a trial, 16, 32, 48 and 64 bytes were put before the same library: `pq_check`
   of the largest tree took 14.9, 19.2, 14.9 and 14.9 us (second: 14.5), `pq_frame` of 256 bytes 110, 110, 186 and 111 ns (second:
-  159), each with the same instructions. A ratio in time between 1.0 and 1.3 on the largest tree is this and nothing else.
-- In the check, ours takes 9 instructions for a byte of text, and 110 for a property's record (`tree::record::read_fields`); that
-  is where it takes more than the second one, which loads whole words. Ops 2 to 5 read one more record that way.
+  159), the library's code being the same. So times of these rows may move by a quarter or more from build to build, and a table
+  shows the one build it was taken from; the instructions are the steadier number.
+- By callgrind, the library's check of the largest tree spends 244079 instructions in `tree::check::is_tree`, about 10 for a byte
+  of text, and 110 for each property in `tree::record::read_fields`. Which part of it accounts for the difference to the second
+  one was not taken apart.
 """
 
 
