@@ -52,7 +52,7 @@ fn written(data: &[u8]) -> Vec<u8> {
     out
 }
 
-/// Data of so many bytes, one in sixteen being 10h.
+/// Data of so many bytes, up to 256, the first alone being 10h.
 fn sample(len: usize) -> Vec<u8> {
     (0..len).map(|at| (at as u8).wrapping_mul(0x1D) ^ 0x10).collect()
 }
