@@ -86,7 +86,8 @@ uint8_t pq_begin_cells(const uint8_t *tree, size_t tree_len, uint8_t *cells, siz
 uint8_t pq_post(const uint8_t *tree, size_t tree_len, uint8_t *cells, size_t cells_len, size_t place, uint32_t word, uint8_t ready);
 
 /* The word of the cell at a place, and whether it is marked ready (1 or 0): for the firmware's own use of its settings. 0 where
- * there is no such cell. The mark counts for live properties alone. */
+ * there is no such whole cell. These two look at nothing else: a mark other than 1 is not ready, whatever else lies in the
+ * buffer. The mark counts for live properties alone. */
 uint32_t pq_word(const uint8_t *cells, size_t cells_len, size_t place);
 uint8_t pq_is_ready(const uint8_t *cells, size_t cells_len, size_t place);
 
