@@ -2,36 +2,53 @@
 // and its cases). What it does with each part of the input is `console::bench::step`.
 use libc::STDIN_FILENO;
 use libc::STDOUT_FILENO;
+ghost use mathlib.Core.Path.{_≡_};
+ghost use mathlib.Core.Bool.{true};
+ghost use Rattle.frame.specs.Stream.{hasForm};
+ghost use Rattle.console.specs.Bench.{Progress};
 
-// One step over a part of the input: its lines are written. Returns how many bytes it took; 0 where the lines could not be written.
-fn show(state: &mut [u8], cells: &mut [u8], bytes: &[u8]) -> usize {
+// How many bytes a step took, and whether its lines could be written.
+pub(crate) struct Told {
+    pub taken: usize,
+    pub written: bool,
+}
+
+// One step over a part of the input, and its lines written.
+fn show(state: &mut [u8], cells: &mut [u8], bytes: &[u8]) -> Told
+    requires { ⌜ hasForm (now state) ≡ true ⌝ }
+    ensures { λ r. ⌜ Progress (now (bytes .entry)) (r .taken) (now (state .exit)) ⌝ }
+{
     let mut text = [0u8; 1058];
     let shown = console::bench::step(state, cells, bytes, &mut text);
     let len = shown.len;
-    if !io::write_all(STDOUT_FILENO, &text[..len]) {
-        return 0;
+    let written = io::write_all(STDOUT_FILENO, &text[..len]);
+    Told {
+        taken: shown.taken,
+        written,
     }
-    shown.taken
 }
 
-// All of a part of the input, step by step. Returns whether to go on.
-fn show_all(state: &mut [u8], cells: &mut [u8], bytes: &[u8]) -> bool {
+// All of a part of the input, step by step. Returns whether to go on: false only where a line could not be written.
+fn show_all(state: &mut [u8], cells: &mut [u8], bytes: &[u8]) -> bool
+    requires { ⌜ hasForm (now state) ≡ true ⌝ }
+    ensures { λ _. ⌜ hasForm (now (state .exit)) ≡ true ⌝ }
+{
     let mut at = 0;
     while at < bytes.len() {
-        let taken = show(state, cells, &bytes[at..]);
-        if taken == 0 {
+        let told = show(state, cells, &bytes[at..]);
+        at += told.taken;
+        if !told.written {
             return false;
         }
-        if bytes.len() - at < taken {
-            return false;
-        }
-        at += taken;
     }
     true
 }
 
 // One read, and what came of it. Returns whether to go on.
-fn read_some(state: &mut [u8], cells: &mut [u8]) -> bool {
+fn read_some(state: &mut [u8], cells: &mut [u8]) -> bool
+    requires { ⌜ hasForm (now state) ≡ true ⌝ }
+    ensures { λ _. ⌜ hasForm (now (state .exit)) ≡ true ⌝ }
+{
     let mut input = io::buffer();
     let got = libc::read(STDIN_FILENO, &mut input);
     if got <= 0 {
@@ -43,7 +60,9 @@ fn read_some(state: &mut [u8], cells: &mut [u8]) -> bool {
 
 // Reads until the input ends. A proved loop has to end, and nothing says that the input does: so it counts its turns down, from a
 // number that no run uses up.
-fn read_all(state: &mut [u8], cells: &mut [u8]) {
+fn read_all(state: &mut [u8], cells: &mut [u8])
+    requires { ⌜ hasForm (now state) ≡ true ⌝ }
+{
     let mut turns = u64::MAX;
     while turns > 0 && read_some(state, cells) {
         turns -= 1;

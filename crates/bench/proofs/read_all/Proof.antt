@@ -1,23 +1,25 @@
 -- `bench::read_all` is safe and ends: it counts its turns. Assumes nothing.
 use native.Mathlib.Omega.{arith}
-use mathlib.Core.Path.{_≡_}
+use mathlib.Core.Path.{_≡_, refl}
+use mathlib.Core.Bool.{true}
 use borrow.Author.Needs.{needs}
 use lib.ListN.{length}
+use Rattle.frame.specs.Stream.{hasForm}
 use Rattle.bench.proofs.read_all.Statement.{statement}
 use Rattle.bench.proofs.read_all.Tie as tie
 
 abbrev Inv-loop : tie.InvT-loop
 Inv-loop state₀ cells₀ turns₀ state cells turns =
-    (length state ≡ length state₀) × (length cells ≡ length cells₀)
+    (hasForm state ≡ true) × ((length state ≡ length state₀) × (length cells ≡ length cells₀))
 
 abbrev μ-loop : tie.MeasureT-loop
 μ-loop state₀ cells₀ turns₀ state cells turns = turns
 
 loop-holds : tie.Need-loop-holds Inv-loop μ-loop
-loop-holds c = search needs
+loop-holds c = (c .before .before .pre, (refl, refl))
 
 read-some-requires : tie.Need-read-some-requires Inv-loop μ-loop
-read-some-requires c κs = tt
+read-some-requires c κs = c .before .before .before .loop .inv .0
 
 sub-turns : tie.Need-sub-turns Inv-loop μ-loop
 sub-turns c = omega arith
@@ -26,7 +28,7 @@ loop-less : tie.Need-loop-less Inv-loop μ-loop
 loop-less c = omega arith
 
 loop-again : tie.Need-loop-again Inv-loop μ-loop
-loop-again c = search needs
+loop-again c = (c .before .before .before .before .before .read-some .ensures, (search needs, search needs))
 
 same-length : tie.Need-same-length Inv-loop μ-loop
 same-length c = search needs
