@@ -514,7 +514,7 @@ def trees():
     print("// Trees in their lent form (docs/FORMATS.md), and their cells; written by tests/cases.py.")
     for name, tree in (("limits", limits()), ("penko", penko())):
         for what, bs in (("tree", tree.form()), ("cells", tree.cell_bytes())):
-            print(f"pub fn {name}_{what}() -> [u8; {len(bs)}] {{\n    [")
+            print(f"pub(crate) fn {name}_{what}() -> [u8; {len(bs)}] {{\n    [")
             for i in range(0, len(bs), 20):
                 print("        " + ", ".join(str(b) for b in bs[i : i + 20]) + ",")
             print("    ]\n}\n")

@@ -35,21 +35,21 @@ fn udp_into(name: &[u8], cells: &mut [u8], host: bool, datagram: &[u8], out: &mu
 }
 
 // Request data: with host functions on or off, and with too little room or cells that do not fit the tree.
-pub fn data(name: &[u8], host: bool, request: &[u8]) {
+pub(crate) fn data(name: &[u8], host: bool, request: &[u8]) {
     let tree = bench::tree();
     let mut cells = bench::cells();
     let mut out = [0u8; 256];
     data_into(name, &tree, &mut cells, host, request, &mut out);
 }
 
-pub fn data_no_room(name: &[u8], request: &[u8]) {
+pub(crate) fn data_no_room(name: &[u8], request: &[u8]) {
     let tree = bench::tree();
     let mut cells = bench::cells();
     let mut out = [0u8; 255];
     data_into(name, &tree, &mut cells, true, request, &mut out);
 }
 
-pub fn data_unsound(name: &[u8], request: &[u8]) {
+pub(crate) fn data_unsound(name: &[u8], request: &[u8]) {
     let tree = bench::tree();
     let mut cells = [0u8; 24];
     let mut out = [0u8; 256];
@@ -57,7 +57,7 @@ pub fn data_unsound(name: &[u8], request: &[u8]) {
 }
 
 // Two requests over the same cells.
-pub fn twice(name: &[u8], first: &[u8], second: &[u8]) {
+pub(crate) fn twice(name: &[u8], first: &[u8], second: &[u8]) {
     let tree = bench::tree();
     let mut cells = bench::cells();
     let mut out = [0u8; 256];
@@ -67,14 +67,14 @@ pub fn twice(name: &[u8], first: &[u8], second: &[u8]) {
 }
 
 // Request data over the other trees.
-pub fn limits(name: &[u8], request: &[u8]) {
+pub(crate) fn limits(name: &[u8], request: &[u8]) {
     let tree = trees::limits_tree();
     let mut cells = trees::limits_cells();
     let mut out = [0u8; 256];
     data_into(name, &tree, &mut cells, true, request, &mut out);
 }
 
-pub fn penko(name: &[u8], request: &[u8]) {
+pub(crate) fn penko(name: &[u8], request: &[u8]) {
     let tree = trees::penko_tree();
     let mut cells = trees::penko_cells();
     let mut out = [0u8; 256];
@@ -82,51 +82,51 @@ pub fn penko(name: &[u8], request: &[u8]) {
 }
 
 // A serial string, and a datagram.
-pub fn serial(name: &[u8], host: bool, address: u8, string: &[u8]) {
+pub(crate) fn serial(name: &[u8], host: bool, address: u8, string: &[u8]) {
     let mut cells = bench::cells();
     let mut out = [0u8; 520];
     serial_into(name, &mut cells, host, address, string, &mut out);
 }
 
-pub fn serial_no_room(name: &[u8], string: &[u8]) {
+pub(crate) fn serial_no_room(name: &[u8], string: &[u8]) {
     let mut cells = bench::cells();
     let mut out = [0u8; 519];
     serial_into(name, &mut cells, true, 0, string, &mut out);
 }
 
-pub fn serial_unsound(name: &[u8], string: &[u8]) {
+pub(crate) fn serial_unsound(name: &[u8], string: &[u8]) {
     let mut cells = [0u8; 24];
     let mut out = [0u8; 520];
     serial_into(name, &mut cells, true, 0, string, &mut out);
 }
 
-pub fn udp(name: &[u8], host: bool, datagram: &[u8]) {
+pub(crate) fn udp(name: &[u8], host: bool, datagram: &[u8]) {
     let mut cells = bench::cells();
     let mut out = [0u8; 260];
     udp_into(name, &mut cells, host, datagram, &mut out);
 }
 
-pub fn udp_no_room(name: &[u8], datagram: &[u8]) {
+pub(crate) fn udp_no_room(name: &[u8], datagram: &[u8]) {
     let mut cells = bench::cells();
     let mut out = [0u8; 259];
     udp_into(name, &mut cells, true, datagram, &mut out);
 }
 
-pub fn udp_unsound(name: &[u8], datagram: &[u8]) {
+pub(crate) fn udp_unsound(name: &[u8], datagram: &[u8]) {
     let mut cells = [0u8; 24];
     let mut out = [0u8; 260];
     udp_into(name, &mut cells, true, datagram, &mut out);
 }
 
 // A posting; the bytes are those of all cells afterwards.
-pub fn post(name: &[u8], place: usize, word: u32, ready: bool) {
+pub(crate) fn post(name: &[u8], place: usize, word: u32, ready: bool) {
     let tree = bench::tree();
     let mut cells = bench::cells();
     let number = tree::cells::post(&tree, &mut cells, place, word, ready);
     show::line(name, number, &cells);
 }
 
-pub fn post_unsound(name: &[u8], place: usize, word: u32, ready: bool) {
+pub(crate) fn post_unsound(name: &[u8], place: usize, word: u32, ready: bool) {
     let tree = bench::tree();
     let mut cells = [0u8; 24];
     let number = tree::cells::post(&tree, &mut cells, place, word, ready);

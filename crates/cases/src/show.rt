@@ -18,7 +18,7 @@ fn show_number(n: u8) {
     io::print_decimal(STDOUT_FILENO, n as u64);
 }
 
-pub fn line(name: &[u8], number: u8, bytes: &[u8]) {
+pub(crate) fn line(name: &[u8], number: u8, bytes: &[u8]) {
     io::write_all(STDOUT_FILENO, name);
     io::write_all(STDOUT_FILENO, b": ");
     show_number(number);
@@ -28,7 +28,7 @@ pub fn line(name: &[u8], number: u8, bytes: &[u8]) {
 }
 
 // The same with the first bytes of an output. A length past its end is no result of any call: the line then has another name.
-pub fn front(name: &[u8], number: u8, out: &[u8], len: usize) {
+pub(crate) fn front(name: &[u8], number: u8, out: &[u8], len: usize) {
     if out.len() < len {
         line(b"length", number, out);
         return;

@@ -1,5 +1,5 @@
 // Trees in their lent form (docs/FORMATS.md), and their cells; written by tests/cases.py.
-pub fn limits_tree() -> [u8; 80] {
+pub(crate) fn limits_tree() -> [u8; 80] {
     [
         1,
         3,
@@ -84,11 +84,11 @@ pub fn limits_tree() -> [u8; 80] {
     ]
 }
 
-pub fn limits_cells() -> [u8; 15] {
+pub(crate) fn limits_cells() -> [u8; 15] {
     [0, 0, 0, 0, 0, 0, 0, 0, 0, 0, 0, 0, 0, 0, 0]
 }
 
-pub fn penko_tree() -> [u8; 517] {
+pub(crate) fn penko_tree() -> [u8; 517] {
     [
         43,
         16,
@@ -610,7 +610,7 @@ pub fn penko_tree() -> [u8; 517] {
     ]
 }
 
-pub fn penko_cells() -> [u8; 80] {
+pub(crate) fn penko_cells() -> [u8; 80] {
     [
         0,
         0,

@@ -2,51 +2,51 @@
 use super::show;
 use protocol::PropertyIndex;
 
-pub fn write_frame(name: &[u8], address: u8, payload: &[u8]) {
+pub(crate) fn write_frame(name: &[u8], address: u8, payload: &[u8]) {
     let mut out = [0u8; 520];
     let written = frame::write::write_frame(address, payload, &mut out);
     show::front(name, written.number, &out, written.len);
 }
 
-pub fn write_frame_no_room(name: &[u8], address: u8, payload: &[u8]) {
+pub(crate) fn write_frame_no_room(name: &[u8], address: u8, payload: &[u8]) {
     let mut out = [0u8; 519];
     let written = frame::write::write_frame(address, payload, &mut out);
     show::front(name, written.number, &out, written.len);
 }
 
-pub fn read_frame(name: &[u8], address: u8, string: &[u8]) {
+pub(crate) fn read_frame(name: &[u8], address: u8, string: &[u8]) {
     let mut out = [0u8; 256];
     let written = frame::read::read_frame(address, string, &mut out);
     show::front(name, written.number, &out, written.len);
 }
 
-pub fn read_frame_no_room(name: &[u8], address: u8, string: &[u8]) {
+pub(crate) fn read_frame_no_room(name: &[u8], address: u8, string: &[u8]) {
     let mut out = [0u8; 255];
     let written = frame::read::read_frame(address, string, &mut out);
     show::front(name, written.number, &out, written.len);
 }
 
-pub fn datagram(name: &[u8], d: &[u8]) {
+pub(crate) fn datagram(name: &[u8], d: &[u8]) {
     let number = frame::udp::datagram_number(d);
     show::line(name, number, frame::udp::datagram_data(d));
 }
 
 // One delivery to the stream reader, from the beginning.
-pub fn feed(name: &[u8], address: u8, bytes: &[u8]) {
+pub(crate) fn feed(name: &[u8], address: u8, bytes: &[u8]) {
     let mut state = [0u8; 261];
     let mut out = [0u8; 256];
     let fed = frame::stream::feed(&mut state, address, bytes, &mut out);
     show::front(name, fed.number, &out, fed.len);
 }
 
-pub fn feed_no_room(name: &[u8], address: u8, bytes: &[u8]) {
+pub(crate) fn feed_no_room(name: &[u8], address: u8, bytes: &[u8]) {
     let mut state = [0u8; 261];
     let mut out = [0u8; 255];
     let fed = frame::stream::feed(&mut state, address, bytes, &mut out);
     show::front(name, fed.number, &out, fed.len);
 }
 
-pub fn feed_unsound(name: &[u8], address: u8, bytes: &[u8]) {
+pub(crate) fn feed_unsound(name: &[u8], address: u8, bytes: &[u8]) {
     let mut state = [4u8; 261];
     let mut out = [0u8; 256];
     let fed = frame::stream::feed(&mut state, address, bytes, &mut out);
@@ -54,7 +54,7 @@ pub fn feed_unsound(name: &[u8], address: u8, bytes: &[u8]) {
 }
 
 // Two deliveries, the second from where the first left the reader.
-pub fn feed_twice(name: &[u8], address: u8, first: &[u8], second: &[u8]) {
+pub(crate) fn feed_twice(name: &[u8], address: u8, first: &[u8], second: &[u8]) {
     let mut state = [0u8; 261];
     let mut out = [0u8; 256];
     let fed = frame::stream::feed(&mut state, address, first, &mut out);
@@ -84,15 +84,15 @@ fn show_asked(name: &[u8], asked: request::Asked) {
     );
 }
 
-pub fn read_serial(name: &[u8], address: u8, string: &[u8]) {
+pub(crate) fn read_serial(name: &[u8], address: u8, string: &[u8]) {
     show_asked(name, request::read::read_serial(address, string));
 }
 
-pub fn read_udp(name: &[u8], datagram: &[u8]) {
+pub(crate) fn read_udp(name: &[u8], datagram: &[u8]) {
     show_asked(name, request::read::read_udp(datagram));
 }
 
-pub fn write_serial(name: &[u8], address: u8, op: u8, path: &[u8], index: u8, value: u32) {
+pub(crate) fn write_serial(name: &[u8], address: u8, op: u8, path: &[u8], index: u8, value: u32) {
     let mut out = [0u8; 520];
     let written = request::write::write_serial(
         address,
@@ -105,7 +105,14 @@ pub fn write_serial(name: &[u8], address: u8, op: u8, path: &[u8], index: u8, va
     show::front(name, written.number, &out, written.len);
 }
 
-pub fn write_serial_no_room(name: &[u8], address: u8, op: u8, path: &[u8], index: u8, value: u32) {
+pub(crate) fn write_serial_no_room(
+    name: &[u8],
+    address: u8,
+    op: u8,
+    path: &[u8],
+    index: u8,
+    value: u32,
+) {
     let mut out = [0u8; 519];
     let written = request::write::write_serial(
         address,
@@ -118,13 +125,13 @@ pub fn write_serial_no_room(name: &[u8], address: u8, op: u8, path: &[u8], index
     show::front(name, written.number, &out, written.len);
 }
 
-pub fn write_udp(name: &[u8], op: u8, path: &[u8], index: u8, value: u32) {
+pub(crate) fn write_udp(name: &[u8], op: u8, path: &[u8], index: u8, value: u32) {
     let mut out = [0u8; 260];
     let written = request::write::write_udp(op, path, PropertyIndex(index), value, &mut out);
     show::front(name, written.number, &out, written.len);
 }
 
-pub fn write_udp_no_room(name: &[u8], op: u8, path: &[u8], index: u8, value: u32) {
+pub(crate) fn write_udp_no_room(name: &[u8], op: u8, path: &[u8], index: u8, value: u32) {
     let mut out = [0u8; 259];
     let written = request::write::write_udp(op, path, PropertyIndex(index), value, &mut out);
     show::front(name, written.number, &out, written.len);
