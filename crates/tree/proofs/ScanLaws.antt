@@ -1,6 +1,6 @@
 -- Texts in bytes: what is seen of them, where they end, and that written texts are seen again.
 -- Assumes nothing.
-use Prim.Native.Nat.{ℕ, zero, suc, _+_, _≤_}
+use Prim.Native.Nat.{ℕ, zero, suc, _+_, _-_, _<_, _≤_}
 use native.Mathlib.Omega.{arith}
 use native.Mathlib.Nat.{not-suc-le-zero}
 use mathlib.Core.Path.{_≡_, refl, sym, ap, ap₂, subst, _∙_}
@@ -14,9 +14,8 @@ use Rattle.protocol.specs.Bytes.{every, text, texts}
 use Rattle.protocol.specs.Request.{beforeZero}
 use Rattle.protocol.specs.Tree.{isCharacter, isText}
 use Rattle.protocol.proofs.TestLaws.{and-left, and-right, and-both}
-use Rattle.tree.specs.declared.texts.Step.the-variants.{On, Ended, Bad}
 use Rattle.tree.specs.Seen.{firstText, afterText, textsFrom}
-use Rattle.tree.specs.Check.{stepOf, textsEnd}
+use Rattle.tree.specs.Check.{textsEnd}
 
 -- One byte in front of texts: a zero ends the first of them, any other byte begins it.
 pub texts-zero : (n : ℕ) (xs : List ℕ) → textsFrom (suc n) (0 ∷ xs) ≡ [] ∷ textsFrom n xs
@@ -31,19 +30,6 @@ pub texts-more : (n b : ℕ) (xs : List ℕ) → eqb b 0 ≡ false
     → textsFrom (suc n) (b ∷ xs) ≡ (b ∷ firstText xs) ∷ textsFrom n (afterText xs)
 unfolding textsFrom
 texts-more n b xs e = ap (λ k. take k (b ∷ xs) ∷ textsFrom n (drop (suc k) (b ∷ xs))) (zero-after b xs e)
-
--- The three steps.
-step-ended : (left : ℕ) → left ≤ 1 → stepOf left 0 ≡ Ended
-unfolding stepOf
-step-ended left h = rw (le-leb left 1 h)
-
-step-next : (n : ℕ) → stepOf (suc (suc n)) 0 ≡ On (suc n)
-unfolding stepOf
-step-next n = rw (lt-leb (suc (suc n)) 1 (omega arith)) (ap On (omega arith))
-
-step-by : (left b : ℕ) (u : Bool) → eqb b 0 ≡ false → isCharacter b ≡ u → stepOf left b ≡ cond u (On left) Bad
-unfolding stepOf
-step-by left b u e f = rw (e, f)
 
 -- Texts that lie at the front of bytes which begin at a place, and end at another: they are texts, and have room.
 pub record Lie (x : List ℕ) (ss : List (List ℕ)) (room at end : ℕ) : Type 0 where
@@ -78,18 +64,26 @@ lie-more {xs} {s} {ss} b f l =
       there = ap (λ r. b ∷ r) (l .there);
     }
 
--- The end of texts by the step of their first byte.
-pub end-on : (left b : ℕ) {more : ℕ} (bs : List ℕ) (at : ℕ) → stepOf left b ≡ On more → textsEnd (b ∷ bs) left at ≡ textsEnd bs more (suc at)
+-- The end of texts by their first byte: a zero, behind which no text or some are left, a character, or another.
+pub end-last : (left : ℕ) (bs : List ℕ) (at : ℕ) → left ≤ 1 → textsEnd (0 ∷ bs) left at ≡ some (suc at)
 unfolding textsEnd
-end-on left b bs at e = rw (e, textsEnd)
+end-last left bs at h = rw (le-leb left 1 h)
 
-pub end-ended : (left b : ℕ) (bs : List ℕ) (at : ℕ) → stepOf left b ≡ Ended → textsEnd (b ∷ bs) left at ≡ some (suc at)
+pub end-next : (more : ℕ) {left : ℕ} (bs : List ℕ) (at : ℕ) → 1 ≤ more → left ≡ suc more
+    → textsEnd (0 ∷ bs) left at ≡ textsEnd bs more (suc at)
 unfolding textsEnd
-end-ended left b bs at e = rw (e, textsEnd)
+end-next more {left} bs at h e =
+    let n : left - 1 ≡ more = omega (arith, e) in
+    rw (lt-leb left 1 (omega (arith, h, e)), n)
 
-pub end-bad : (left b : ℕ) (bs : List ℕ) (at : ℕ) → stepOf left b ≡ Bad → textsEnd (b ∷ bs) left at ≡ none
+pub end-on : (left b : ℕ) (bs : List ℕ) (at : ℕ) → isCharacter b ≡ true → textsEnd (b ∷ bs) left at ≡ textsEnd bs left (suc at)
 unfolding textsEnd
-end-bad left b bs at e = rw (e, textsEnd)
+end-on left zero bs at e = absurd (false≢true e)
+end-on left (suc b) bs at e = rw (eqb·suc-zero b, e)
+
+pub end-bad : (left b : ℕ) (bs : List ℕ) (at : ℕ) → eqb b 0 ≡ false → isCharacter b ≡ false → textsEnd (b ∷ bs) left at ≡ none
+unfolding textsEnd
+end-bad left b bs at e f = rw (e, f)
 
 end-nil : (left at end : ℕ) → textsEnd [] left at ≡ some end → ⊥
 unfolding textsEnd
@@ -102,10 +96,10 @@ scan-zero : (xs : List ℕ) (room n at end : ℕ) → textsEnd (0 ∷ take room 
 unfolding textsFrom beforeZero
 scan-zero xs room zero at end h again =
     subst (λ e. Lie (0 ∷ xs) ([] ∷ []) (suc room) at e)
-    (Option·some-injective _ _ (sym (end-ended 1 0 (take room xs) at (step-ended 1 (omega arith))) ∙ h))
+    (Option·some-injective _ _ (sym (end-last 1 (take room xs) at (omega arith)) ∙ h))
     (lie-ended xs room at)
 scan-zero xs room (suc n) at end h again =
-    lie-next (again n refl (sym (end-on (suc (suc n)) 0 (take room xs) at (step-next n)) ∙ h))
+    lie-next (again n refl (sym (end-next (suc n) (take room xs) at (omega arith) refl) ∙ h))
 
 scan-more : (b : ℕ) (xs : List ℕ) (room n at end : ℕ) → eqb b 0 ≡ false → textsEnd (b ∷ take room xs) (suc n) at ≡ some end
     → (textsEnd (take room xs) (suc n) (suc at) ≡ some end → Lie xs (textsFrom (suc n) xs) room (suc at) end)
@@ -116,8 +110,8 @@ scan-more b xs room n at end e h again = go (isCharacter b) refl
     go : (u : Bool) → isCharacter b ≡ u → Lie (b ∷ xs) (textsFrom (suc n) (b ∷ xs)) (suc room) at end
     go true f =
         subst (λ ss. Lie (b ∷ xs) ss (suc room) at end) (sym (texts-more n b xs e))
-        (lie-more b f (again (sym (end-on (suc n) b (take room xs) at (step-by (suc n) b true e f)) ∙ h)))
-    go false f = absurd (Option·none-ne-some _ (sym (end-bad (suc n) b (take room xs) at (step-by (suc n) b false e f)) ∙ h))
+        (lie-more b f (again (sym (end-on (suc n) b (take room xs) at f) ∙ h)))
+    go false f = absurd (Option·none-ne-some _ (sym (end-bad (suc n) b (take room xs) at e f) ∙ h))
 
 pub scan-back : (x : List ℕ) (room n at end : ℕ) → 1 ≤ n → textsEnd (take room x) n at ≡ some end → Lie x (textsFrom n x) room at end
 scan-back x zero n at end p h = absurd (end-nil n at end h)
@@ -168,9 +162,9 @@ pub scan-forth : (ss : List (List ℕ)) (s more : List ℕ) (room at : ℕ) → 
     → textsEnd (take room (texts (s ∷ ss) ++ more)) (suc (length ss)) at ≡ some (at + length (texts (s ∷ ss)))
 unfolding texts text every
 scan-forth ss s more zero at h k = absurd (omega (arith, k, length-append (text s) (texts ss), length-append s (0 ∷ [])))
-scan-forth [] [] more (suc room) at h k = end-ended 1 0 (take room more) at (step-ended 1 (omega arith)) ∙ ap some (omega arith)
+scan-forth [] [] more (suc room) at h k = end-last 1 (take room more) at (omega arith) ∙ ap some (omega arith)
 scan-forth (s ∷ ss) [] more (suc room) at h k =
-    end-on (suc (suc (length ss))) 0 (take room (texts (s ∷ ss) ++ more)) at (step-next (length ss))
+    end-next (suc (length ss)) (take room (texts (s ∷ ss) ++ more)) at (omega arith) refl
     ∙ scan-forth ss s more room (suc at) h (omega arith)
     ∙ ap some (omega arith)
 scan-forth ss (zero ∷ s) more (suc room) at h k = absurd (false≢true (and-left false (every isText ss) h))
@@ -178,7 +172,6 @@ scan-forth ss (suc b ∷ s) more (suc room) at h k =
     let one : isText (suc b ∷ s) ≡ true = and-left (isText (suc b ∷ s)) (every isText ss) h in
     let rest : every isText (s ∷ ss) ≡ true =
     and-both (characters (suc b) s one) (and-right (isText (suc b ∷ s)) (every isText ss) h) in
-    end-on (suc (length ss)) (suc b) (take room (texts (s ∷ ss) ++ more)) at
-    (step-by (suc (length ss)) (suc b) true (eqb·suc-zero b) (character (suc b) s one))
+    end-on (suc (length ss)) (suc b) (take room (texts (s ∷ ss) ++ more)) at (character (suc b) s one)
     ∙ scan-forth ss s more room (suc at) rest (omega arith)
     ∙ ap some (omega arith)

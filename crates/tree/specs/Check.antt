@@ -8,22 +8,22 @@ use lib.Dec.{eqb, ltb, leb}
 use Rattle.protocol.specs.Numbers.{standard, enumeration, maxDepth, maxNodes, maxProperties, maxOption, maxTexts}
 use Rattle.protocol.specs.Bytes.{atMost}
 use Rattle.protocol.specs.Tree.{Property, isSigned, isCharacter, liveSound}
-use Rattle.tree.specs.declared.texts.Step.{Step}
-use Rattle.tree.specs.declared.texts.Step.the-variants.{On, Ended, Bad}
 use Rattle.tree.specs.Form.{nodeSize, propertySize, propertiesStart, textsStart}
 use Rattle.tree.specs.Seen.{halfAt, wordAt, recordsFrom, optionCount, propertySeen, nodeCount, propertyCount}
 
--- One byte of some texts, of which so many are still to end.
-unfoldable pub stepOf : ℕ → ℕ → Step
-stepOf left b =
-    cond (eqb b 0) (cond (leb left 1) Ended (On (left - 1))) (cond (isCharacter b) (On left) Bad)
+-- How many characters stand in front of some bytes.
+unfoldable pub charactersIn : List ℕ → ℕ
+charactersIn [] = 0
+charactersIn (b ∷ bs) = cond (isCharacter b) (suc (charactersIn bs)) 0
 
 -- The place after some texts, which lie at the front of bytes that begin at a place: none where a byte is no character, or
--- where the bytes end before the texts do.
+-- where the bytes end before the texts do. A zero ends a text, and the last that is left ends them all.
 unfoldable pub textsEnd : List ℕ → ℕ → ℕ → Option ℕ
 textsEnd [] left at = none
 textsEnd (b ∷ bs) left at =
-    elim (stepOf left b) [ On more ↦ textsEnd bs more (suc at) | Ended ↦ some (suc at) | Bad ↦ none ]
+    cond (eqb b 0)
+    (cond (leb left 1) (some (suc at)) (textsEnd bs (left - 1) (suc at)))
+    (cond (isCharacter b) (textsEnd bs left (suc at)) none)
 
 -- The same of texts in a tree, which may take so many bytes.
 abbrev pub textsEndIn : List ℕ → ℕ → ℕ → ℕ → Option ℕ

@@ -3,36 +3,36 @@ use super::Found;
 use super::bytes;
 ghost use mathlib.Core.Path.{_≡_};
 ghost use Prim.Native.Nat.{_+_, _-_, _≤_, min};
-ghost use lib.ListN.{length, drop};
+ghost use lib.ListN.{length, take, drop};
 ghost use Rattle.protocol.specs.Bytes.{texts};
+ghost use Rattle.protocol.specs.Tree.{isCharacter};
 ghost use Rattle.protocol.specs.Buffer.{Put, fitting};
 ghost use Rattle.tree.specs.Seen.{textsFrom};
-ghost use Rattle.tree.specs.Check.{stepOf, textsEndIn};
+ghost use Rattle.tree.specs.Check.{charactersIn, textsEndIn};
 ghost use Rattle.tree.specs.Lent.{foundOf};
 
-// One byte of some texts: they go on, with so many to end, or have ended; or the byte is no character.
-pub(crate) enum Step {
-    On(usize),
-    Ended,
-    Bad,
+fn is_character(b: u8) -> bool
+    ensures { λ r. ⌜ r ≡ isCharacter b ⌝ }
+{
+    if b < 0x20 {
+        return false;
+    }
+    b <= 0x7E
 }
 
-fn step_on(left: usize, b: u8) -> Step
-    ensures { λ r. ⌜ r ≡ stepOf left b ⌝ }
+// The place of the first byte from a place on that is no character, or the end.
+fn characters_end(tree: &[u8], from: usize, end: usize) -> usize
+    requires { ⌜ (from ≤ end) × (end ≤ length (now tree)) ⌝ }
+    ensures { λ r. ⌜ r ≡ from + charactersIn (take (end - from) (drop from (now (tree .entry)))) ⌝ }
 {
-    if 0x20 <= b {
-        if 0x7E < b {
-            return Step::Bad;
+    let mut at = from;
+    while at < end {
+        if !is_character(tree[at]) {
+            return at;
         }
-        return Step::On(left);
+        at += 1;
     }
-    if b != 0 {
-        return Step::Bad;
-    }
-    if left <= 1 {
-        return Step::Ended;
-    }
-    Step::On(left - 1)
+    at
 }
 
 // The lesser of the end of the bytes and a place so far behind another.
@@ -56,15 +56,18 @@ pub(crate) fn texts_end(tree: &[u8], from: usize, count: usize, room: usize) -> 
     let mut left = count;
     let mut at = from;
     while at < end {
-        let b = tree[at];
-        at += 1;
-        match step_on(left, b) {
-            Step::On(next) => {
-                left = next;
-            }
-            Step::Ended => return Found::At(at),
-            Step::Bad => return Found::Nothing,
+        let stop = characters_end(tree, at, end);
+        if end <= stop {
+            return Found::Nothing;
         }
+        if tree[stop] != 0 {
+            return Found::Nothing;
+        }
+        at = stop + 1;
+        if left <= 1 {
+            return Found::At(at);
+        }
+        left -= 1;
     }
     Found::Nothing
 }

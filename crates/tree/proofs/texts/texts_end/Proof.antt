@@ -1,9 +1,8 @@
 -- `tree::texts::texts_end` meets its contract. Assumes nothing.
 use Prim.Native.Nat.{_-_}
 use native.Mathlib.Omega.{arith}
-use mathlib.Core.Path.{sym, _∙_}
 use borrow.Author.Needs.{needs}
-use Rattle.tree.proofs.TextLaws.{Scanning, scan-begins, scan-on, scan-ended, scan-bad, scan-out}
+use Rattle.tree.proofs.TextLaws.{Scanning, scan-begins, scan-skip, scan-stop, scan-next, scan-ended, scan-bad, scan-out}
 use Rattle.tree.proofs.texts.texts_end.Statement.{statement}
 use Rattle.tree.proofs.texts.texts_end.Tie as tie
 
@@ -21,51 +20,57 @@ loop-holds c =
     let start = c .before .before in
     scan-begins (start .pre) (c .end-of-room .ensures)
 
-shared-slice-read-b : tie.Need-shared-slice-read-b Inv-loop μ-loop
-shared-slice-read-b c = omega arith
+characters-end-requires : tie.Need-characters-end-requires Inv-loop μ-loop
+characters-end-requires c κs = (c .before .loop .inv .within, c .before .loop .inv .last)
+
+-- Behind the characters the scan goes on, and where bytes are left the next is none.
+abbrev from-here : tie.After-characters-end Inv-loop μ-loop → Type 0
+from-here c =
+    let start = c .before .before .before .before .before in
+    Scanning (start .args .tree .now) (start .args .from) (start .args .count) (start .args .room)
+    (c .before .before .before .end-of-room .result)
+    (c .before .before .loop .left)
+    (c .characters-end .result)
+
+skipped : (c : tie.After-characters-end Inv-loop μ-loop) → from-here c
+skipped c = scan-skip (c .before .before .loop .inv) (c .characters-end .ensures)
+
+returns : tie.Need-returns Inv-loop μ-loop
+returns c = scan-out (skipped (c .before)) (c .if1 .taken)
+
+shared-slice-read-if2 : tie.Need-shared-slice-read-if2 Inv-loop μ-loop
+shared-slice-read-if2 c = omega (arith, skipped (c .before .before) .last)
+
+returns-2 : tie.Need-returns-2 Inv-loop μ-loop
+returns-2 c =
+    let there = c .before .before in
+    let passed = there .before in
+    scan-bad (skipped passed) (there .if1 .left) (c .if2 .taken)
+    (scan-stop (passed .before .before .loop .inv) (passed .characters-end .ensures) (there .if1 .left))
 
 add-at : tie.Need-add-at Inv-loop μ-loop
 add-at c = omega arith
 
-step-on-requires : tie.Need-step-on-requires Inv-loop μ-loop
-step-on-requires c κs = search needs
+returns-3 : tie.Need-returns-3 Inv-loop μ-loop
+returns-3 c =
+    let there = c .before .before .before in
+    scan-ended (skipped (there .before)) (there .if1 .left) (c .before .if2 .left) (c .if3 .taken)
 
-enum-known-next : tie.Need-enum-known-next Inv-loop μ-loop
-enum-known-next c = search needs
+sub-left : tie.Need-sub-left Inv-loop μ-loop
+sub-left c = omega arith
 
 loop-less : tie.Need-loop-less Inv-loop μ-loop
-loop-less c = omega arith
+loop-less c =
+    let passed = c .before .before .before .before in
+    omega (arith, skipped passed .past)
 
 loop-again : tie.Need-loop-again Inv-loop μ-loop
 loop-again c =
-    let told = c .before in
-    let m = told .before .before in
-    let in-loop = m .before .before in
-    scan-on (in-loop .before .loop .inv) (in-loop .loop-test .taken)
-    (sym (told .next .given .1) ∙ m .step-on .ensures)
+    let there = c .before .before .before in
+    scan-next (skipped (there .before)) (there .if1 .left) (c .before .if2 .left) (c .if3 .left)
 
-enum-told : tie.Need-enum-told Inv-loop μ-loop
-enum-told c = search needs
-
-returns : tie.Need-returns Inv-loop μ-loop
-returns c =
-    let m = c .before .before in
-    let in-loop = m .before .before in
-    scan-ended (in-loop .before .loop .inv) (in-loop .loop-test .taken)
-    (sym (c .enum-told .given .1) ∙ m .step-on .ensures)
-
-enum-told-2 : tie.Need-enum-told-2 Inv-loop μ-loop
-enum-told-2 c = search needs
-
-returns-2 : tie.Need-returns-2 Inv-loop μ-loop
-returns-2 c =
-    let m = c .before .before in
-    let in-loop = m .before .before in
-    scan-bad (in-loop .before .loop .inv) (in-loop .loop-test .taken)
-    (sym (c .enum-told2 .given .1) ∙ m .step-on .ensures)
-
-returns-3 : tie.Need-returns-3 Inv-loop μ-loop
-returns-3 c = scan-out (c .before .loop .inv) (c .loop-test .left)
+returns-4 : tie.Need-returns-4 Inv-loop μ-loop
+returns-4 c = scan-out (c .before .loop .inv) (c .loop-test .left)
 
 pub texts-end-spec : {M : Type 1} → statement M
 texts-end-spec =
@@ -75,14 +80,13 @@ texts-end-spec =
     μ-loop
     end-of-room-requires
     loop-holds
-    shared-slice-read-b
+    characters-end-requires
+    returns
+    shared-slice-read-if2
+    returns-2
     add-at
-    step-on-requires
-    enum-known-next
+    returns-3
+    sub-left
     loop-less
     loop-again
-    enum-told
-    returns
-    enum-told-2
-    returns-2
-    returns-3)
+    returns-4)
