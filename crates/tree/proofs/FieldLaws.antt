@@ -1,14 +1,14 @@
 -- A property's numbers, and the texts of nodes and properties, at their places in lent bytes.
 -- Assumes nothing.
-use Prim.Native.Nat.{ℕ, suc, _+_, _*_, _%_, _<_, _≤_}
+use Prim.Native.Nat.{ℕ, suc, _+_, _-_, _*_, _%_, _<_, _≤_}
 use native.Mathlib.Omega.{arith}
 use native.Mathlib.Nat.{add-zero}
 use native.Mathlib.Numerals.{add-one}
 use mathlib.Core.Path.{_≡_, refl, sym, ap, ap₂, subst, _∙_}
 use mathlib.Core.Bool.{Bool, true, false, cond}
-use mathlib.Core.List.{List, [], _++_, append-nil}
-use lib.ListN.{length, getD, take, drop, List·getD-eq-default}
-use lib.Seq.{getD-drop, drop-drop, drop-length}
+use mathlib.Core.List.{List, [], _∷_, _++_, append-nil}
+use lib.ListN.{length, getD, take, drop, set, length-set, List·getD-eq-default}
+use lib.Seq.{getD-drop, drop-drop, drop-length, take-length, take-suc-set}
 use lib.Dec.{eqb}
 use Rattle.protocol.specs.Numbers.{enumeration}
 use Rattle.protocol.specs.Bytes.{Bytes, text, texts}
@@ -16,12 +16,13 @@ use Rattle.protocol.specs.Buffer.{Put}
 use Rattle.protocol.specs.Request.{beforeZero}
 use Rattle.protocol.specs.Tree.{Node, Property, Tree, nodeIn, propertyIn}
 use Rattle.protocol.specs.Answer.{recordTexts}
+use Rattle.protocol.proofs.BufferLaws.{part-lent}
 use Rattle.tree.specs.declared.record.Fields.{Fields}
 use Rattle.tree.specs.Form.{nodeSize, propertySize, propertiesStart}
-use Rattle.tree.specs.Seen.{halfAt, wordAt, firstText, afterText, textsFrom, nodeSeen, propertySeen, optionCount, nodeCount, propertyCount, seen}
+use Rattle.tree.specs.Seen.{entries, halfAt, wordAt, firstText, afterText, textsFrom, nodeSeen, propertySeen, optionCount, nodeCount, propertyCount, seen}
 use Rattle.tree.specs.Lent.{FieldsAre}
 use Rattle.tree.proofs.RecordLaws.{records-length, records-at}
-use Rattle.tree.proofs.NumberLaws.{half-behind, word-behind}
+use Rattle.tree.proofs.NumberLaws.{entries-more, entries-at, half-behind, word-behind}
 use Rattle.tree.proofs.NodeLaws.{texts-one}
 
 -- Where the record of a node begins, and that of a property.
@@ -86,33 +87,64 @@ options-few kind max = few (eqb kind enumeration)
     few true = omega arith
     few false = omega arith
 
--- Numbers that were read from a place on.
-pub record FieldsRead (bs : List ℕ) (at : ℕ) (r : Fields) : Type 0 where
-  pub node : r .node ≡ getD bs at 0
-  pub kind : r .kind ≡ getD bs (at + 1) 0
-  pub min : r .min ≡ wordAt (at + 2) bs
-  pub max : r .max ≡ wordAt (at + 6) bs
-  pub attribute : r .attribute ≡ halfAt (at + 10) bs
-  pub format : r .format ≡ halfAt (at + 12) bs
+-- A record of which some bytes have been read, one by one.
+pub record Cutting (bs : List ℕ) (at : ℕ) (cut : List ℕ) (i : ℕ) : Type 0 where
+  pub within : i ≤ propertySize
+  pub size : length cut ≡ propertySize
+  pub read : take i cut ≡ entries at i bs
 
-fields-seen : (bs : List ℕ) {at : ℕ} {r : Fields} → FieldsRead bs at r → FieldsAre (propertySeen bs (drop at bs)) r
-unfolding propertySeen
-fields-seen bs {at} f =
+pub cut-begins : (bs : List ℕ) (at : ℕ) (cut : List ℕ) → length cut ≡ propertySize → Cutting bs at cut 0
+unfolding entries
+cut-begins bs at cut e = record { within = omega arith; size = e; read = refl }
+
+module _ {bs : List ℕ} {at : ℕ} {cut : List ℕ} {i : ℕ} (w : Cutting bs at cut i) where
+  pub cut-more : {b : ℕ} → i < propertySize → b ≡ getD bs (at + i) 0 → Cutting bs at (set cut i b) (i + 1)
+  cut-more {b} h e =
+      record {
+        within = omega arith;
+        size = length-set cut i b ∙ w .size;
+        read =
+            ap (λ n. take n (set cut i b)) (add-one i)
+            ∙ take-suc-set cut i b (omega (arith, w .size))
+            ∙ ap₂ (λ l x. l ++ (x ∷ [])) (w .read) e
+            ∙ sym (entries-more i at bs);
+      }
+
+  pub cut-ends : propertySize ≤ i → cut ≡ entries at propertySize bs
+  cut-ends h =
+      let n : i ≡ propertySize = omega (arith, w .within) in
+      sym (ap (λ m. take m cut) (n ∙ sym (w .size)) ∙ take-length cut) ∙ w .read ∙ ap (λ m. entries at m bs) n
+
+-- The numbers of a record are those of any bytes that begin alike.
+fields-alike : (x y bs : List ℕ) {r : Fields} → ((k : ℕ) → k < propertySize → getD x k 0 ≡ getD y k 0)
+    → FieldsAre (propertySeen [] x) r → FieldsAre (propertySeen bs y) r
+unfolding propertySeen halfAt wordAt
+fields-alike x y bs e f =
     record {
-      node = f .node ∙ sym (getD-drop at bs 0 0 ∙ ap (λ n. getD bs n 0) (add-zero at));
-      kind = f .kind ∙ sym (getD-drop at bs 1 0);
-      min = f .min ∙ sym (word-behind at bs 2);
-      max = f .max ∙ sym (word-behind at bs 6);
-      attribute = f .attribute ∙ sym (half-behind at bs 10);
-      format = f .format ∙ sym (half-behind at bs 12);
+      node = f .node ∙ e 0 (omega arith);
+      kind = f .kind ∙ e 1 (omega arith);
+      min = f .min ∙ rw (e 2 (omega arith), e 3 (omega arith), e 4 (omega arith), e 5 (omega arith));
+      max = f .max ∙ rw (e 6 (omega arith), e 7 (omega arith), e 8 (omega arith), e 9 (omega arith));
+      attribute = f .attribute ∙ rw (e 10 (omega arith), e 11 (omega arith));
+      format = f .format ∙ rw (e 12 (omega arith), e 13 (omega arith));
     }
+
+pub fields-cut : (bs : List ℕ) (at : ℕ) {r : Fields} → FieldsAre (propertySeen [] (entries at propertySize bs)) r
+    → FieldsAre (propertySeen bs (drop at bs)) r
+fields-cut bs at =
+    fields-alike (entries at propertySize bs) (drop at bs) bs (λ k h. entries-at propertySize at bs k h ∙ sym (getD-drop at bs k 0))
+
+pub fields-whole : (bs : List ℕ) (at : ℕ) {r : Fields} → FieldsAre (propertySeen [] (take (length bs - at) (drop at bs))) r
+    → FieldsAre (propertySeen bs (drop at bs)) r
+fields-whole bs at =
+    fields-alike (take (length bs - at) (drop at bs)) (drop at bs) bs (λ k h. ap (λ l. getD l k 0) (part-lent at bs))
 
 module _ (bs : List ℕ) (place : ℕ) where
   pub fields-at : {start : ℕ} {r : Fields} → place < propertyCount bs → start ≡ propertiesStart (nodeCount bs)
-      → FieldsRead bs (start + place * propertySize) r → FieldsAre (propertyIn (seen bs) place) r
+      → FieldsAre (propertySeen bs (drop (start + place * propertySize) bs)) r → FieldsAre (propertyIn (seen bs) place) r
   fields-at {r = r} h e f =
       subst (λ p. FieldsAre p r) (sym (property-at bs place h))
-      (fields-seen bs (subst (λ n. FieldsRead bs (n + place * propertySize) r) e f))
+      (subst (λ n. FieldsAre (propertySeen bs (drop (n + place * propertySize) bs)) r) e f)
 
   pub fields-none : propertyCount bs ≤ place
       → FieldsAre (propertyIn (seen bs) place) (record { node = 0; kind = 0; min = 0; max = 0; attribute = 0; format = 0 })

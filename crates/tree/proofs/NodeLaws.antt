@@ -14,12 +14,12 @@ use Rattle.protocol.specs.Bytes.{Bytes, every, half, text, texts}
 use Rattle.protocol.specs.Tree.{Node, isText, isName}
 use Rattle.protocol.proofs.TestLaws.{and-left, and-right, and-both}
 use Rattle.tree.specs.Form.{nodeSize, nodeTexts, nodeRecord}
-use Rattle.tree.specs.Seen.{halfAt, firstText, textsFrom, nodeSeen}
+use Rattle.tree.specs.Seen.{entries, halfAt, firstText, textsFrom, nodeSeen}
 use Rattle.tree.specs.Check.{textsEnd, textsEndIn, nameRoom, nodeEnd}
 use Rattle.tree.proofs.FoundLaws.{if-some}
 use Rattle.tree.proofs.ScanLaws.{Lie, scan-back, text-seen, scan-forth}
 use Rattle.tree.proofs.TableLaws.{LaidOne, Written}
-use Rattle.tree.proofs.NumberLaws.{entries, take-entries, number-half, half-again}
+use Rattle.tree.proofs.NumberLaws.{take-entries, number-half, half-again}
 
 -- One text, as all of some texts.
 pub texts-one : (s : List ℕ) → texts (s ∷ []) ≡ text s

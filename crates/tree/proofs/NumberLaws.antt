@@ -2,7 +2,7 @@
 -- Assumes nothing.
 use Prim.Native.Nat.{ℕ, zero, suc, _+_, _/_, _%_, _^_, _<_, _≤_}
 use native.Mathlib.Omega.{arith}
-use native.Mathlib.Nat.{add-assoc}
+use native.Mathlib.Nat.{add-assoc, add-zero, not-suc-le-zero}
 use mathlib.Core.Path.{_≡_, refl, sym, ap, ap₂, _∙_}
 use mathlib.Core.List.{List, [], _∷_, _++_}
 use lib.ListN.{length, getD, take, drop}
@@ -10,7 +10,7 @@ use lib.Seq.{drop-cons, getD-drop}
 use Rattle.protocol.specs.Numbers.{byteEnd, halfEnd, wordEnd}
 use Rattle.protocol.specs.Bytes.{Bytes, half, word, number, numberAfter}
 use Rattle.protocol.proofs.ListLaws.{word-number, bytes-cons}
-use Rattle.tree.specs.Seen.{halfAt, wordAt}
+use Rattle.tree.specs.Seen.{entries, halfAt, wordAt}
 
 -- Lists of bytes, and that numbers are written as bytes.
 pub bytes-none : Bytes []
@@ -34,16 +34,28 @@ word-bytes n (suc (suc zero)) = omega arith
 word-bytes n (suc (suc (suc zero))) = omega arith
 word-bytes n (suc (suc (suc (suc i)))) = omega arith
 
--- The bytes from a place on, one by one.
-unfoldable pub entries : ℕ → ℕ → List ℕ → List ℕ
-entries i zero r = []
-entries i (suc n) r = getD r i 0 ∷ entries (suc i) n r
-
 pub take-entries : (n i : ℕ) (r : List ℕ) → i + n ≤ length r → take n (drop i r) ≡ entries i n r
 unfolding entries
 take-entries zero i r h = refl
 take-entries (suc n) i r h =
     ap (take (suc n)) (drop-cons r i 0 (omega arith)) ∙ ap (λ l. getD r i 0 ∷ l) (take-entries n (suc i) r (omega arith))
+
+pub entries-more : (n i : ℕ) (r : List ℕ) → entries i (n + 1) r ≡ entries i n r ++ (getD r (i + n) 0 ∷ [])
+unfolding entries
+entries-more zero i r = ap (λ m. getD r m 0 ∷ []) (sym (add-zero i))
+entries-more (suc n) i r =
+    let m : suc i + n ≡ i + suc n = omega arith in
+    let size : suc n + 1 ≡ suc (n + 1) = omega arith in
+    ap (λ k. entries i k r) size
+    ∙ ap (λ l. getD r i 0 ∷ l) (entries-more n (suc i) r ∙ ap (λ m. entries (suc i) n r ++ (getD r m 0 ∷ [])) m)
+
+pub entries-at : (n i : ℕ) (r : List ℕ) (k : ℕ) → k < n → getD (entries i n r) k 0 ≡ getD r (i + k) 0
+unfolding entries
+entries-at zero i r k h = absurd (not-suc-le-zero h)
+entries-at (suc n) i r zero h = ap (λ m. getD r m 0) (sym (add-zero i))
+entries-at (suc n) i r (suc k) h =
+    let m : suc i + k ≡ i + suc k = omega arith in
+    entries-at n (suc i) r k (omega arith) ∙ ap (λ m. getD r m 0) m
 
 -- A number of 16 bits and its two bytes.
 pub number-half : (n : ℕ) → n < halfEnd → number (half n) ≡ n

@@ -19,12 +19,12 @@ use Rattle.protocol.specs.Answer.{recordTexts}
 use Rattle.protocol.proofs.TestLaws.{and-left, and-right, and-both}
 use Rattle.protocol.proofs.ListLaws.{number-word}
 use Rattle.tree.specs.Form.{propertySize, propertyRecord}
-use Rattle.tree.specs.Seen.{halfAt, wordAt, firstText, afterText, textsFrom, optionCount, propertySeen, nodeCount}
+use Rattle.tree.specs.Seen.{entries, halfAt, wordAt, firstText, afterText, textsFrom, optionCount, propertySeen, nodeCount}
 use Rattle.tree.specs.Check.{textsEnd, textsEndIn, nameRoom, andThen, kindFits, fieldsFit, propertyEnd}
 use Rattle.tree.proofs.ScanLaws.{Lie, scan-back, text-seen, text-passed, texts-seen, scan-forth}
 use Rattle.tree.proofs.FoundLaws.{if-some, then-some, then-back}
 use Rattle.tree.proofs.TableLaws.{LaidOne, Written}
-use Rattle.tree.proofs.NumberLaws.{entries, take-entries, number-half, half-again, word-again, half-fits, word-fits}
+use Rattle.tree.proofs.NumberLaws.{take-entries, number-half, half-again, word-again, half-fits, word-fits}
 use Rattle.tree.proofs.NodeLaws.{length-text, name-text, Named, name-back, name-forth}
 
 -- The first text ends with the first zero, or with the bytes.

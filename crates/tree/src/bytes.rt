@@ -1,7 +1,9 @@
 // Numbers read from lent bytes. A byte past the end is 0.
 ghost use mathlib.Core.Path.{_≡_};
 ghost use Prim.Native.Nat.{_+_, _*_, _<_, _^_};
+ghost use mathlib.Core.List.{[], _∷_};
 ghost use lib.ListN.{getD};
+ghost use Rattle.protocol.specs.Bytes.{number};
 ghost use Rattle.tree.specs.Seen.{halfAt, wordAt};
 
 pub(crate) fn byte_at(bs: &[u8], at: usize) -> u8
@@ -20,6 +22,13 @@ pub(crate) fn wide(b: u8) -> usize
     b as usize
 }
 
+// A number of 16 bits of its bytes, the high one first.
+pub(crate) fn half_of(high: u8, low: u8) -> u16
+    ensures { λ r. ⌜ r ≡ number (high ∷ low ∷ []) ⌝ }
+{
+    high as u16 * 256 + low as u16
+}
+
 // A number with one byte more behind it.
 fn with_byte(high: u32, low: u8) -> u32
     requires { ⌜ high < 2 ^ 24 ⌝ }
@@ -28,14 +37,21 @@ fn with_byte(high: u32, low: u8) -> u32
     high * 256 + low as u32
 }
 
-// A number of 16 bits at a place, the high byte first.
+// A number of 32 bits of its bytes.
+pub(crate) fn word_of(first: u8, second: u8, third: u8, last: u8) -> u32
+    ensures { λ r. ⌜ r ≡ number (first ∷ second ∷ third ∷ last ∷ []) ⌝ }
+{
+    let two = with_byte(first as u32, second);
+    let three = with_byte(two, third);
+    with_byte(three, last)
+}
+
+// A number of 16 bits at a place.
 pub(crate) fn half_at(bs: &[u8], at: usize) -> u16
     requires { ⌜ at + 1 < 2 ^ 64 ⌝ }
     ensures { λ r. ⌜ r ≡ halfAt at (now (bs .entry)) ⌝ }
 {
-    let high = byte_at(bs, at);
-    let low = byte_at(bs, at + 1);
-    high as u16 * 256 + low as u16
+    half_of(byte_at(bs, at), byte_at(bs, at + 1))
 }
 
 // A number of 32 bits at a place.
@@ -43,8 +59,10 @@ pub(crate) fn word_at(bs: &[u8], at: usize) -> u32
     requires { ⌜ at + 3 < 2 ^ 64 ⌝ }
     ensures { λ r. ⌜ r ≡ wordAt at (now (bs .entry)) ⌝ }
 {
-    let one = with_byte(0, byte_at(bs, at));
-    let two = with_byte(one, byte_at(bs, at + 1));
-    let three = with_byte(two, byte_at(bs, at + 2));
-    with_byte(three, byte_at(bs, at + 3))
+    word_of(
+        byte_at(bs, at),
+        byte_at(bs, at + 1),
+        byte_at(bs, at + 2),
+        byte_at(bs, at + 3),
+    )
 }

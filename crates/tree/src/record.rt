@@ -5,6 +5,8 @@ use super::PROPERTY_SIZE;
 use super::bytes;
 use super::texts;
 ghost use mathlib.Core.Path.{_≡_};
+ghost use Prim.Native.Nat.{_<_, _≤_, _^_};
+ghost use mathlib.Core.List.{[]};
 ghost use lib.ListN.{length, getD};
 ghost use Rattle.protocol.specs.Numbers.{bitRead, bitWrite, bitLive, bitSigned};
 ghost use Rattle.protocol.specs.Bytes.{bit, text, ordered, atMost};
@@ -12,7 +14,7 @@ ghost use Rattle.protocol.specs.Buffer.{Put, fitting};
 ghost use Rattle.protocol.specs.Tree.{nodeIn, propertyIn};
 ghost use Rattle.protocol.specs.Answer.{recordTexts};
 ghost use Rattle.tree.specs.Form.{propertiesStart};
-ghost use Rattle.tree.specs.Seen.{seen, optionCount};
+ghost use Rattle.tree.specs.Seen.{entries, propertySeen, seen, optionCount};
 ghost use Rattle.tree.specs.Lent.{FieldsAre};
 
 // What a property's record holds beside its texts.
@@ -95,6 +97,35 @@ pub(crate) fn option_count(kind: u8, max: u32) -> usize
     1
 }
 
+// The numbers in a property's record, which begins some bytes.
+fn fields_of(bs: &[u8]) -> Fields
+    requires { ⌜ 16 ≤ length (now bs) ⌝ }
+    ensures { λ r. ⌜ FieldsAre (propertySeen [] (now (bs .entry))) r ⌝ }
+{
+    Fields {
+        node: bs[0],
+        kind: bs[1],
+        min: bytes::word_of(bs[2], bs[3], bs[4], bs[5]),
+        max: bytes::word_of(bs[6], bs[7], bs[8], bs[9]),
+        attribute: bytes::half_of(bs[10], bs[11]),
+        format: bytes::half_of(bs[12], bs[13]),
+    }
+}
+
+// The record at a place of a tree whose bytes end in it: behind them stand zeros.
+fn cut_record(tree: &[u8], at: usize) -> [u8; 16]
+    requires { ⌜ at < 2 ^ 32 ⌝ }
+    ensures { λ r. ⌜ r ≡ entries at 16 (now (tree .entry)) ⌝ }
+{
+    let mut cut = [0u8; 16];
+    let mut i = 0;
+    while i < 16 {
+        cut[i] = bytes::byte_at(tree, at + i);
+        i += 1;
+    }
+    cut
+}
+
 // The numbers of the property at a place; all 0 where there is none.
 pub fn read_fields(tree: &[u8], place: usize) -> Fields
     ensures { λ r. ⌜ FieldsAre (propertyIn (seen (now (tree .entry))) place) r ⌝ }
@@ -110,14 +141,11 @@ pub fn read_fields(tree: &[u8], place: usize) -> Fields
         };
     }
     let at = properties_start(tree) + place * PROPERTY_SIZE;
-    Fields {
-        node: bytes::byte_at(tree, at),
-        kind: bytes::byte_at(tree, at + 1),
-        min: bytes::word_at(tree, at + 2),
-        max: bytes::word_at(tree, at + 6),
-        attribute: bytes::half_at(tree, at + 10),
-        format: bytes::half_at(tree, at + 12),
+    if at + PROPERTY_SIZE <= tree.len() {
+        return fields_of(&tree[at..]);
     }
+    let cut = cut_record(tree, at);
+    fields_of(&cut[..])
 }
 
 // A node's name, with the zero that ends it, put at a place of an output, as far as there is room. Returns the next place.

@@ -9,17 +9,11 @@ use Rattle.tree.proofs.bytes.word_at.Tie as tie
 byte-at-requires : tie.Need-byte-at-requires
 byte-at-requires c κs = search needs
 
-with-byte-requires : tie.Need-with-byte-requires
-with-byte-requires c κs = search needs
-
 add-byte-at : tie.Need-add-byte-at
 add-byte-at c = search needs
 
 byte-at-requires-2 : tie.Need-byte-at-requires-2
 byte-at-requires-2 c κs = search needs
-
-with-byte-requires-2 : tie.Need-with-byte-requires-2
-with-byte-requires-2 c κs = search needs
 
 add-byte-at-2 : tie.Need-add-byte-at-2
 add-byte-at-2 c = search needs
@@ -27,17 +21,14 @@ add-byte-at-2 c = search needs
 byte-at-requires-3 : tie.Need-byte-at-requires-3
 byte-at-requires-3 c κs = search needs
 
-with-byte-requires-3 : tie.Need-with-byte-requires-3
-with-byte-requires-3 c κs = search needs
-
 add-byte-at-3 : tie.Need-add-byte-at-3
 add-byte-at-3 c = search needs
 
 byte-at-requires-4 : tie.Need-byte-at-requires-4
 byte-at-requires-4 c κs = search needs
 
-with-byte-requires-4 : tie.Need-with-byte-requires-4
-with-byte-requires-4 c κs = search needs
+word-of-requires : tie.Need-word-of-requires
+word-of-requires c κs = search needs
 
 returns : tie.Need-returns
 unfolding wordAt numberAfter
@@ -48,14 +39,11 @@ word-at-spec =
     tie.close
     (tie.spec
     byte-at-requires
-    with-byte-requires
     add-byte-at
     byte-at-requires-2
-    with-byte-requires-2
     add-byte-at-2
     byte-at-requires-3
-    with-byte-requires-3
     add-byte-at-3
     byte-at-requires-4
-    with-byte-requires-4
+    word-of-requires
     returns)

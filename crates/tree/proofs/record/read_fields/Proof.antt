@@ -1,10 +1,16 @@
 -- `tree::record::read_fields` meets its contract. Assumes nothing.
-use Prim.Native.Nat.{_+_, _*_, _<_}
-use borrow.Author.Needs.{needs}
+use Prim.Native.Nat.{ℕ, _+_, _*_, _<_}
 use native.Mathlib.Omega.{arith}
+use mathlib.Core.Path.{subst}
+use mathlib.Core.List.{[]}
+use lib.ListN.{drop}
+use borrow.Author.Needs.{needs}
+use Rattle.protocol.specs.Tree.{propertyIn}
+use Rattle.tree.specs.declared.record.Fields.{Fields}
 use Rattle.tree.specs.Form.{propertySize}
-use Rattle.tree.specs.Seen.{propertyCount}
-use Rattle.tree.proofs.FieldLaws.{property-near, fields-at, fields-none}
+use Rattle.tree.specs.Seen.{propertyCount, propertySeen, seen}
+use Rattle.tree.specs.Lent.{FieldsAre}
+use Rattle.tree.proofs.FieldLaws.{property-near, fields-at, fields-none, fields-whole, fields-cut}
 use Rattle.tree.proofs.record.read_fields.Statement.{statement}
 use Rattle.tree.proofs.record.read_fields.Tie as tie
 
@@ -15,11 +21,20 @@ start c = c .before .before .before .before .before
 below : (c : tie.After-properties-start) → start c .args .place < propertyCount (start c .args .tree .now)
 below c = omega arith
 
-near : (c : tie.After-properties-start) → c .properties-start .result + start c .args .place * propertySize < 65536
+abbrev record-place : tie.After-properties-start → ℕ
+record-place c = c .properties-start .result + start c .args .place * propertySize
+
+near : (c : tie.After-properties-start) → record-place c < 65536
 near c =
     let known = c .before .before .before .before .shared-slice-known in
     property-near (start c .args .tree .now) (start c .args .place) (λ i. omega (arith, known .given i)) (below c)
     (c .properties-start .ensures)
+
+-- The numbers of a record there are the property's.
+fields-read : (c : tie.After-properties-start) {r : Fields}
+    → FieldsAre (propertySeen (start c .args .tree .now) (drop (record-place c) (start c .args .tree .now))) r
+    → FieldsAre (propertyIn (seen (start c .args .tree .now)) (start c .args .place)) r
+fields-read c = fields-at (start c .args .tree .now) (start c .args .place) (below c) (c .properties-start .ensures)
 
 byte-at-requires : tie.Need-byte-at-requires
 byte-at-requires c κs = search needs
@@ -41,51 +56,40 @@ mul-at c = search needs
 add-at : tie.Need-add-at
 add-at c = omega (arith, near c)
 
-byte-at-requires-2 : tie.Need-byte-at-requires-2
-byte-at-requires-2 c κs = search needs
+add-if2 : tie.Need-add-if2
+add-if2 c = omega (arith, near c)
 
-add-byte-at : tie.Need-add-byte-at
-add-byte-at c = omega (arith, near (c .before))
+sub-fields-of : tie.Need-sub-fields-of
+sub-fields-of c = search needs
 
-byte-at-requires-3 : tie.Need-byte-at-requires-3
-byte-at-requires-3 c κs = search needs
+part-fields-of-start : tie.Need-part-fields-of-start
+part-fields-of-start c = search needs
 
-add-word-at : tie.Need-add-word-at
-add-word-at c = omega (arith, near (c .before .before))
+part-fields-of-end : tie.Need-part-fields-of-end
+part-fields-of-end c = search needs
 
-word-at-requires : tie.Need-word-at-requires
-word-at-requires c κs = omega (arith, near (c .before .before))
-
-add-word-at-2 : tie.Need-add-word-at-2
-add-word-at-2 c = omega (arith, near (c .before .before .before))
-
-word-at-requires-2 : tie.Need-word-at-requires-2
-word-at-requires-2 c κs = omega (arith, near (c .before .before .before))
-
-add-half-at : tie.Need-add-half-at
-add-half-at c = omega (arith, near (c .before .before .before .before))
-
-half-at-requires : tie.Need-half-at-requires
-half-at-requires c κs = omega (arith, near (c .before .before .before .before))
-
-add-half-at-2 : tie.Need-add-half-at-2
-add-half-at-2 c = omega (arith, near (c .before .before .before .before .before))
-
-half-at-requires-2 : tie.Need-half-at-requires-2
-half-at-requires-2 c κs = omega (arith, near (c .before .before .before .before .before))
+fields-of-requires : tie.Need-fields-of-requires
+fields-of-requires c κs = search needs
 
 returns-2 : tie.Need-returns-2
 returns-2 c =
-    let read = c .before .before .before .before .before .before in
-    fields-at (start read .args .tree .now) (start read .args .place) (below read) (read .properties-start .ensures)
-    (record {
-      node = c .before .before .before .before .before .byte-at2 .ensures;
-      kind = c .before .before .before .before .byte-at3 .ensures;
-      min = c .before .before .before .word-at .ensures;
-      max = c .before .before .word-at2 .ensures;
-      attribute = c .before .half-at .ensures;
-      format = c .half-at2 .ensures;
-    })
+    let read = c .before .before .before in
+    fields-read read (fields-whole (start read .args .tree .now) (record-place read) (c .fields-of .ensures))
+
+cut-record-requires : tie.Need-cut-record-requires
+cut-record-requires c κs = omega (arith, near (c .before))
+
+slice-aggregate-fields-of : tie.Need-slice-aggregate-fields-of
+slice-aggregate-fields-of c = search needs
+
+fields-of-requires-2 : tie.Need-fields-of-requires-2
+fields-of-requires-2 c κs = search needs
+
+returns-3 : tie.Need-returns-3
+returns-3 c =
+    let read = c .before .before .before .before in
+    fields-read read (fields-cut (start read .args .tree .now) (record-place read)
+    (subst (λ l. FieldsAre (propertySeen [] l) (c .fields-of2 .result)) (c .before .before .cut-record .ensures) (c .fields-of2 .ensures)))
 
 pub read-fields-spec : {M : Type 1} → statement M
 read-fields-spec =
@@ -97,15 +101,13 @@ read-fields-spec =
     properties-start-requires
     mul-at
     add-at
-    byte-at-requires-2
-    add-byte-at
-    byte-at-requires-3
-    add-word-at
-    word-at-requires
-    add-word-at-2
-    word-at-requires-2
-    add-half-at
-    half-at-requires
-    add-half-at-2
-    half-at-requires-2
-    returns-2)
+    add-if2
+    sub-fields-of
+    part-fields-of-start
+    part-fields-of-end
+    fields-of-requires
+    returns-2
+    cut-record-requires
+    slice-aggregate-fields-of
+    fields-of-requires-2
+    returns-3)
