@@ -4,7 +4,7 @@ use Prim.Native.Nat.{ℕ, zero, suc, _+_, _-_, _<_, _≤_, min}
 use native.Mathlib.Omega.{arith}
 use native.Mathlib.Nat.{not-suc-le-zero, zero-min, suc-min-suc, add-zero, sub-zero}
 use native.Mathlib.Numerals.{add-one}
-use mathlib.Core.Path.{_≡_, refl, sym, ap, ap₂, _∙_}
+use mathlib.Core.Path.{_≡_, refl, sym, ap, ap₂, subst, _∙_}
 use mathlib.Core.Bool.{Bool, true, false, cond}
 use mathlib.Core.List.{List, [], _∷_}
 use mathlib.Core.Option.{none, some, Option·none-ne-some, Option·some-injective}
@@ -138,6 +138,12 @@ module _ {bs : List ℕ} {from end at : ℕ} (p : Passing bs from end at) where
 
     pub pass-stop : isCharacter (getD bs at 0) ≡ false → at ≡ from + charactersIn (take (end - from) (drop from bs))
     pass-stop e = omega (arith, counted e)
+
+pub pass-two : {bs : List ℕ} {from end : ℕ} (at : ℕ) → Passing bs from end (at + 1) → at + 1 < end → isCharacter (getD bs (at + 1) 0) ≡ true
+    → Passing bs from end (at + 2)
+pass-two {bs} {from} {end} at p h e =
+    let n : at + 1 + 1 ≡ at + 2 = omega arith in
+    subst (λ m. Passing bs from end m) n (pass-on p h e)
 
 -- A scan of texts that begin at a place: what is left of it.
 pub record Scanning (bs : List ℕ) (from count room end left at : ℕ) : Type 0 where

@@ -20,19 +20,28 @@ fn is_character(b: u8) -> bool
     b <= 0x7E
 }
 
-// The place of the first byte from a place on that is no character, or the end.
+// The place of the first byte from a place on that is no character, or the end. Two bytes are looked at in a round.
 fn characters_end(tree: &[u8], from: usize, end: usize) -> usize
     requires { ⌜ (from ≤ end) × (end ≤ length (now tree)) ⌝ }
     ensures { λ r. ⌜ r ≡ from + charactersIn (take (end - from) (drop from (now (tree .entry)))) ⌝ }
 {
     let mut at = from;
-    while at < end {
+    while at + 1 < end {
         if !is_character(tree[at]) {
             return at;
         }
-        at += 1;
+        if !is_character(tree[at + 1]) {
+            return at + 1;
+        }
+        at += 2;
     }
-    at
+    if end <= at {
+        return at;
+    }
+    if !is_character(tree[at]) {
+        return at;
+    }
+    at + 1
 }
 
 // The lesser of the end of the bytes and a place so far behind another.
