@@ -1,15 +1,16 @@
 -- A property's numbers, and the texts of nodes and properties, at their places in lent bytes.
 -- Assumes nothing.
-use Prim.Native.Nat.{ℕ, suc, _+_, _-_, _*_, _%_, _<_, _≤_}
+use Prim.Native.Nat.{ℕ, zero, suc, _+_, _-_, _*_, _%_, _<_, _≤_}
 use native.Mathlib.Omega.{arith}
-use native.Mathlib.Nat.{add-zero}
+use native.Mathlib.Nat.{not-suc-le-zero, add-zero}
 use native.Mathlib.Numerals.{add-one}
 use mathlib.Core.Path.{_≡_, refl, sym, ap, ap₂, subst, _∙_}
 use mathlib.Core.Bool.{Bool, true, false, cond}
-use mathlib.Core.List.{List, [], _∷_, _++_, append-nil}
-use lib.ListN.{length, getD, take, drop, set, length-set, List·getD-eq-default}
-use lib.Seq.{getD-drop, drop-drop, drop-length, take-length, take-suc-set}
-use lib.Dec.{eqb}
+use mathlib.Core.List.{List, [], _++_, append-nil}
+use borrow.Author.Tests.{ltb-true, ltb-false, eqb-true, eqb-false}
+use lib.ListN.{length, getD, take, drop, set, replicate, length-set, List·getD-eq-default}
+use lib.Seq.{getD-drop, drop-drop, drop-length, getD-set-same, getD-set-other}
+use lib.Dec.{eqb, ltb}
 use Rattle.protocol.specs.Numbers.{enumeration}
 use Rattle.protocol.specs.Bytes.{Bytes, text, texts}
 use Rattle.protocol.specs.Buffer.{Put}
@@ -22,7 +23,7 @@ use Rattle.tree.specs.Form.{nodeSize, propertySize, propertiesStart}
 use Rattle.tree.specs.Seen.{entries, halfAt, wordAt, firstText, afterText, textsFrom, nodeSeen, propertySeen, optionCount, nodeCount, propertyCount, seen}
 use Rattle.tree.specs.Lent.{FieldsAre}
 use Rattle.tree.proofs.RecordLaws.{records-length, records-at}
-use Rattle.tree.proofs.NumberLaws.{entries-more, entries-at, half-behind, word-behind}
+use Rattle.tree.proofs.NumberLaws.{entries-at, entries-alike, half-behind, word-behind}
 use Rattle.tree.proofs.NodeLaws.{texts-one}
 
 -- Where the record of a node begins, and that of a property.
@@ -87,33 +88,52 @@ options-few kind max = few (eqb kind enumeration)
     few true = omega arith
     few false = omega arith
 
--- A record of which some bytes have been read, one by one.
+-- A record of which some bytes have been read, with zeros behind them.
 pub record Cutting (bs : List ℕ) (at : ℕ) (cut : List ℕ) (i : ℕ) : Type 0 where
   pub within : i ≤ propertySize
   pub size : length cut ≡ propertySize
-  pub read : take i cut ≡ entries at i bs
+  pub read : (k : ℕ) → k < i → getD cut k 0 ≡ getD bs (at + k) 0
+  pub rest : (k : ℕ) → i ≤ k → getD cut k 0 ≡ 0
 
-pub cut-begins : (bs : List ℕ) (at : ℕ) (cut : List ℕ) → length cut ≡ propertySize → Cutting bs at cut 0
-unfolding entries
-cut-begins bs at cut e = record { within = omega arith; size = e; read = refl }
+zero-at : (n k : ℕ) → _≡_ {A = ℕ} (getD (replicate n 0) k 0) 0
+zero-at zero k = refl
+zero-at (suc n) zero = refl
+zero-at (suc n) (suc k) = zero-at n k
+
+pub cut-begins : (bs : List ℕ) (at : ℕ) → Cutting bs at (replicate propertySize 0) 0
+cut-begins bs at =
+    record { within = omega arith; size = refl; read = λ k p. absurd (not-suc-le-zero p); rest = λ k p. zero-at propertySize k }
 
 module _ {bs : List ℕ} {at : ℕ} {cut : List ℕ} {i : ℕ} (w : Cutting bs at cut i) where
-  pub cut-more : {b : ℕ} → i < propertySize → b ≡ getD bs (at + i) 0 → Cutting bs at (set cut i b) (i + 1)
-  cut-more {b} h e =
-      record {
-        within = omega arith;
-        size = length-set cut i b ∙ w .size;
-        read =
-            ap (λ n. take n (set cut i b)) (add-one i)
-            ∙ take-suc-set cut i b (omega (arith, w .size))
-            ∙ ap₂ (λ l x. l ++ (x ∷ [])) (w .read) e
-            ∙ sym (entries-more i at bs);
-      }
+  module _ {b : ℕ} (h : i < propertySize) (e : b ≡ getD bs (at + i) 0) where
+    cut-byte : (k : ℕ) (t : Bool) → eqb k i ≡ t → k < i + 1 → getD (set cut i b) k 0 ≡ getD bs (at + k) 0
+    cut-byte k true f p =
+        let same : k ≡ i = eqb-true k i f in
+        ap (λ n. getD (set cut i b) n 0) same
+        ∙ getD-set-same cut i b 0 (omega (arith, h, w .size))
+        ∙ e
+        ∙ ap (λ n. getD bs (at + n) 0) (sym same)
+    cut-byte k false f p =
+        let other : (k ≡ i → ⊥) = eqb-false k i f in
+        getD-set-other cut i k b 0 other ∙ w .read k (omega (arith, p, other))
 
-  pub cut-ends : propertySize ≤ i → cut ≡ entries at propertySize bs
-  cut-ends h =
-      let n : i ≡ propertySize = omega (arith, w .within) in
-      sym (ap (λ m. take m cut) (n ∙ sym (w .size)) ∙ take-length cut) ∙ w .read ∙ ap (λ m. entries at m bs) n
+    pub cut-more : Cutting bs at (set cut i b) (i + 1)
+    cut-more =
+        record {
+          within = omega arith;
+          size = length-set cut i b ∙ w .size;
+          read = λ k p. cut-byte k (eqb k i) refl p;
+          rest = λ k p. getD-set-other cut i k b 0 (λ q. omega (arith, p, q)) ∙ w .rest k (omega (arith, p));
+        }
+
+  pub cut-ends : length bs ≤ at + i → cut ≡ entries at propertySize bs
+  cut-ends h = entries-alike propertySize at bs cut (w .size) (λ k p. byte k (ltb k i) refl)
+    where
+      byte : (k : ℕ) (t : Bool) → ltb k i ≡ t → getD cut k 0 ≡ getD bs (at + k) 0
+      byte k true f = w .read k (ltb-true k i f)
+      byte k false f =
+          let behind : i ≤ k = ltb-false k i f in
+          w .rest k behind ∙ sym (List·getD-eq-default bs 0 {n = at + k} (omega (arith, behind, h)))
 
 -- The numbers of a record are those of any bytes that begin alike.
 fields-alike : (x y bs : List ℕ) {r : Fields} → ((k : ℕ) → k < propertySize → getD x k 0 ≡ getD y k 0)

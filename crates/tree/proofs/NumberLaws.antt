@@ -40,15 +40,6 @@ take-entries zero i r h = refl
 take-entries (suc n) i r h =
     ap (take (suc n)) (drop-cons r i 0 (omega arith)) ∙ ap (λ l. getD r i 0 ∷ l) (take-entries n (suc i) r (omega arith))
 
-pub entries-more : (n i : ℕ) (r : List ℕ) → entries i (n + 1) r ≡ entries i n r ++ (getD r (i + n) 0 ∷ [])
-unfolding entries
-entries-more zero i r = ap (λ m. getD r m 0 ∷ []) (sym (add-zero i))
-entries-more (suc n) i r =
-    let m : suc i + n ≡ i + suc n = omega arith in
-    let size : suc n + 1 ≡ suc (n + 1) = omega arith in
-    ap (λ k. entries i k r) size
-    ∙ ap (λ l. getD r i 0 ∷ l) (entries-more n (suc i) r ∙ ap (λ m. entries (suc i) n r ++ (getD r m 0 ∷ [])) m)
-
 pub entries-at : (n i : ℕ) (r : List ℕ) (k : ℕ) → k < n → getD (entries i n r) k 0 ≡ getD r (i + k) 0
 unfolding entries
 entries-at zero i r k h = absurd (not-suc-le-zero h)
@@ -56,6 +47,17 @@ entries-at (suc n) i r zero h = ap (λ m. getD r m 0) (sym (add-zero i))
 entries-at (suc n) i r (suc k) h =
     let m : suc i + k ≡ i + suc k = omega arith in
     entries-at n (suc i) r k (omega arith) ∙ ap (λ m. getD r m 0) m
+
+pub entries-alike : (n i : ℕ) (r l : List ℕ) → length l ≡ n → ((k : ℕ) → k < n → getD l k 0 ≡ getD r (i + k) 0) → l ≡ entries i n r
+unfolding entries
+entries-alike zero i r [] h e = refl
+entries-alike zero i r (x ∷ l) h e = absurd (omega (arith, h))
+entries-alike (suc n) i r [] h e = absurd (omega (arith, h))
+entries-alike (suc n) i r (x ∷ l) h e =
+    let first : x ≡ getD r i 0 = e 0 (omega arith) ∙ ap (λ m. getD r m 0) (add-zero i) in
+    let next : (k : ℕ) → k < n → getD l k 0 ≡ getD r (suc i + k) 0 =
+    λ k p. let m : i + suc k ≡ suc i + k = omega arith in e (suc k) (omega (arith, p)) ∙ ap (λ m. getD r m 0) m in
+    ap₂ (λ y t. y ∷ t) first (entries-alike n (suc i) r l (omega (arith, h)) next)
 
 -- A number of 16 bits and its two bytes.
 pub number-half : (n : ℕ) → n < halfEnd → number (half n) ≡ n

@@ -5,7 +5,7 @@ use super::PROPERTY_SIZE;
 use super::bytes;
 use super::texts;
 ghost use mathlib.Core.Path.{_≡_};
-ghost use Prim.Native.Nat.{_<_, _≤_, _^_};
+ghost use Prim.Native.Nat.{_+_, _<_, _≤_, _^_};
 ghost use mathlib.Core.List.{[]};
 ghost use lib.ListN.{length, getD};
 ghost use Rattle.protocol.specs.Numbers.{bitRead, bitWrite, bitLive, bitSigned};
@@ -112,15 +112,15 @@ fn fields_of(bs: &[u8]) -> Fields
     }
 }
 
-// The record at a place of a tree whose bytes end in it: behind them stand zeros.
+// The record at a place of a tree whose bytes end in it or before it: behind them stand zeros.
 fn cut_record(tree: &[u8], at: usize) -> [u8; 16]
-    requires { ⌜ at < 2 ^ 32 ⌝ }
+    requires { ⌜ (at < 2 ^ 32) × (length (now tree) < at + 16) ⌝ }
     ensures { λ r. ⌜ r ≡ entries at 16 (now (tree .entry)) ⌝ }
 {
     let mut cut = [0u8; 16];
     let mut i = 0;
-    while i < 16 {
-        cut[i] = bytes::byte_at(tree, at + i);
+    while at + i < tree.len() {
+        cut[i] = tree[at + i];
         i += 1;
     }
     cut

@@ -2,7 +2,7 @@
 use Prim.Native.Nat.{_-_}
 use native.Mathlib.Omega.{arith}
 use mathlib.Core.Path.{refl}
-use borrow.Author.Needs.{needs}
+use Rattle.tree.specs.Form.{propertySize}
 use Rattle.tree.proofs.FieldLaws.{Cutting, cut-begins, cut-more, cut-ends}
 use Rattle.tree.proofs.record.cut_record.Statement.{statement}
 use Rattle.tree.proofs.record.cut_record.Tie as tie
@@ -11,16 +11,19 @@ abbrev Inv-loop : tie.InvT-loop
 Inv-loop tree at cut₀ i₀ cut i = Cutting tree at cut i
 
 abbrev μ-loop : tie.MeasureT-loop
-μ-loop tree at cut₀ i₀ cut i = 16 - i
+μ-loop tree at cut₀ i₀ cut i = propertySize - i
 
 loop-holds : tie.Need-loop-holds Inv-loop μ-loop
-loop-holds c = cut-begins (c .before .args .tree .now) (c .before .args .at) _ refl
+loop-holds c = cut-begins (c .args .tree .now) (c .args .at)
 
-add-byte-at : tie.Need-add-byte-at Inv-loop μ-loop
-add-byte-at c = omega arith
+add-loop : tie.Need-add-loop Inv-loop μ-loop
+add-loop c = omega arith
 
-byte-at-requires : tie.Need-byte-at-requires Inv-loop μ-loop
-byte-at-requires c κs = search needs
+add-cut : tie.Need-add-cut Inv-loop μ-loop
+add-cut c = omega arith
+
+shared-slice-read-cut : tie.Need-shared-slice-read-cut Inv-loop μ-loop
+shared-slice-read-cut c = omega arith
 
 array-write-cut : tie.Need-array-write-cut Inv-loop μ-loop
 array-write-cut c = omega arith
@@ -32,9 +35,7 @@ loop-less : tie.Need-loop-less Inv-loop μ-loop
 loop-less c = omega arith
 
 loop-again : tie.Need-loop-again Inv-loop μ-loop
-loop-again c =
-    let in-loop = c .before in
-    cut-more (in-loop .before .loop .inv) (in-loop .loop-test .taken) (c .byte-at .ensures)
+loop-again c = cut-more (c .before .before .loop .inv) (omega arith) refl
 
 returns : tie.Need-returns Inv-loop μ-loop
 returns c = cut-ends (c .before .loop .inv) (c .loop-test .left)
@@ -46,8 +47,9 @@ cut-record-spec =
     Inv-loop
     μ-loop
     loop-holds
-    add-byte-at
-    byte-at-requires
+    add-loop
+    add-cut
+    shared-slice-read-cut
     array-write-cut
     add-i
     loop-less
