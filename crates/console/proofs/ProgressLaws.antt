@@ -1,8 +1,8 @@
 -- A step goes on, from every state that has a form.
 -- Assumes nothing.
-use Prim.Native.Nat.{ℕ, suc, _<_, _≤_}
+use Prim.Native.Nat.{ℕ, _<_, _≤_}
 use native.Mathlib.Omega.{arith}
-use mathlib.Core.Path.{_≡_, refl, sym, ap, subst, _∙_}
+use mathlib.Core.Path.{_≡_, refl, ap, _∙_}
 use mathlib.Core.Bool.{true}
 use mathlib.Core.List.{List, [], _∷_}
 use borrow.Author.Tests.{le-ltb}
@@ -13,7 +13,7 @@ use Rattle.protocol.specs.Stream as rule
 use Rattle.protocol.specs.Stream.{Stream, Event, step}
 use Rattle.protocol.proofs.TestLaws.{if-both}
 use Rattle.frame.specs.Stream.{FedBy, Ran, fedBy, fed, hasForm, standing, runFrom, next, keep}
-use Rattle.frame.proofs.FeedLaws.{Formed, form-of, stands}
+use Rattle.frame.proofs.FeedLaws.{form-of, stands}
 use Rattle.frame.proofs.DeliveryLaws.{Stood, Follows, follows}
 use Rattle.console.specs.Bench.{benchAddress, textRoom, shows, stepped, Stepped, Steps, Progress}
 

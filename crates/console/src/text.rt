@@ -1,7 +1,6 @@
 // Text of numbers and bytes, put into a lent buffer.
 use frame::buffer;
 ghost use mathlib.Core.Path.{_≡_};
-ghost use mathlib.Core.List.{[], _∷_};
 ghost use Prim.Native.Nat.{_+_, _*_, _≤_, _<_};
 ghost use lib.ListN.{length};
 ghost use Rattle.protocol.specs.Buffer.{Put};

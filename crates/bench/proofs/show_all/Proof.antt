@@ -4,7 +4,7 @@ use native.Mathlib.Omega.{arith}
 use mathlib.Core.Path.{_≡_, refl}
 use mathlib.Core.Bool.{true}
 use borrow.Author.Needs.{needs}
-use lib.ListN.{length, take, drop, length-take, length-drop}
+use lib.ListN.{length, drop, length-take, length-drop}
 use Rattle.frame.specs.Stream.{hasForm}
 use Rattle.bench.proofs.show_all.Statement.{statement}
 use Rattle.bench.proofs.show_all.Tie as tie
