@@ -47,8 +47,8 @@ TAIL = """
   of the largest tree took 14.9, 19.2, 14.9 and 14.9 us (second: 14.5), `pq_frame` of 256 bytes 110, 110, 186 and 111 ns (second:
   159), the library's code being the same. So times of these rows may move by a quarter or more from build to build, and a table
   shows the one build it was taken from; the instructions are the steadier number.
-- The check of the tree is most of a row with a tree (three quarters or more on the bench tree): about 9 instructions for a byte of text (`tree::texts::texts_end`), and
-  110 for each property in `tree::record::read_fields`.
+- The check of the tree is most of a row with a tree (two thirds or more on the bench tree): about 6 instructions for a byte of
+  text (`tree::texts::characters_end`), and 31 for the numbers of a property (`tree::record::read_fields`).
 """
 
 

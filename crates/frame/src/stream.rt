@@ -53,10 +53,14 @@ fn place_of(state: &[u8]) -> Found
         return Found::Formless;
     }
     let phase = state[0];
-    let len = wide(state[1]) * 256 + wide(state[2]);
     if 3 < phase {
         return Found::Formless;
     }
+    let high = wide(state[1]);
+    if 1 < high {
+        return Found::Formless;
+    }
+    let len = high * 256 + wide(state[2]);
     if MAX_CONTENT < len {
         return Found::Formless;
     }
