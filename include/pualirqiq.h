@@ -3,7 +3,7 @@
  * Every call returns, for all bytes, and trusts no earlier check: no argument needs to be tested first. A slice is a pointer
  * and a length; with length 0 the pointer is not read, and must not be NULL all the same. Buffers of one call must not overlap,
  * and a number that is handed back must not lie in one. No call keeps a pointer, allocates, or touches anything but what it is
- * lent.
+ * lent. Of the C library the code needs memcpy and memset.
  *
  * tree    in flash, read only; its form is in docs/FORMATS.md. Every call that gets a tree checks it.
  * cells   one cell of PQ_CELL_SIZE bytes for each property, in the order of the tree. pq_begin_cells makes them; after that

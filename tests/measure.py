@@ -43,10 +43,9 @@ tested at run time in the second one; it allocates two lists for a tree.
 TAIL = """
 ## How to read it
 
-- Time depends on where the linker puts a loop. In a trial, 16, 32, 48 and 64 bytes were put before the same library: `pq_check`
-  of the largest tree took 14.9, 19.2, 14.9 and 14.9 us (second: 14.5), `pq_frame` of 256 bytes 110, 110, 186 and 111 ns (second:
-  159), the library's code being the same. So times of these rows may move by a quarter or more from build to build, and a table
-  shows the one build it was taken from; the instructions are the steadier number.
+- Time depends on where the linker puts a loop. In a trial, 0, 16, 32 and 48 bytes were put before the same library. The row of a
+  byte fed alone came to 0.91, 1.01, 0.94 and 0.93 of the second implementation's time, the code being the same; every other row
+  stayed at 0.85 or under. A table shows the one build it was taken from; the instructions are the steadier number.
 - The check of the tree is most of a row with a tree (two thirds or more on the bench tree): about 6 instructions for a byte of
   text (`tree::texts::characters_end`), and 31 for the numbers of a property (`tree::record::read_fields`).
 """
