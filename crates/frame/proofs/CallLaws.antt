@@ -19,7 +19,8 @@ use Rattle.frame.specs.declared.stream.Found.{Found}
 use Rattle.frame.specs.declared.stream.Found.the-variants.{At, Formless}
 use Rattle.frame.specs.declared.stream.End.{End}
 use Rattle.frame.specs.declared.stream.End.the-variants.{NoFrame, ClosedWith, Paired, Long}
-use Rattle.frame.specs.Stream.{stateLength, phaseIn, lengthIn, hasForm, standing, placeOf, place, Ran, runFrom, outcome, takesNone, fed, Feeds, endOf, RunIs}
+use Rattle.frame.specs.declared.stream.Fed.{Fed}
+use Rattle.frame.specs.Stream.{FedBy, stateLength, phaseIn, lengthIn, hasForm, standing, placeOf, place, Ran, runFrom, outcome, takesNone, fed, Feeds, endOf, RunIs}
 use Rattle.frame.proofs.FeedLaws.{Placed, keep-placed, placed-formed}
 
 -- The two refusals that take no byte.
@@ -59,6 +60,12 @@ module _ (a : ℕ) (st bytes out : List ℕ) where
     feeds-run k e t s =
         rw (placed-formed st h .0, le-ltb (length out) roomData k)
         (record { number = e .number; taken = t; len = e .len; state = s; bytes = e .bytes })
+
+-- What a call without data returns.
+pub feeds-bare : {what : FedBy} {old st new : List ℕ} (n count : ℕ) {r : Fed} → r ≡ record { number = n; taken = count; len = 0 }
+    → Feeds what old n count 0 st new → Feeds what old (r .number) (r .taken) (r .len) st new
+feeds-bare {what} {old} {st} {new} n count e f =
+    subst (λ x. Feeds what old (x .number) (x .taken) (x .len) st new) (sym e) f
 
 -- The event behind an end.
 abbrev tag : End → ℕ

@@ -246,44 +246,35 @@ pub struct Fed {
     pub len: usize,
 }
 
+// A call that put no data.
+fn without_data(number: u8, taken: usize) -> Fed
+    ensures { λ r. ⌜ r ≡ record { number = number; taken = taken; len = 0 } ⌝ }
+{
+    Fed {
+        number,
+        taken,
+        len: 0,
+    }
+}
+
 // Bytes fed to the stream reader, up to the one that closes or drops a frame: 1, 8, then what the stream rule gives.
 pub fn feed(state: &mut [u8], address: u8, bytes: &[u8], out: &mut [u8]) -> Fed
     ensures { λ r. ⌜ Feeds (fed address (now (state .entry)) (now (bytes .entry)) (length (now (out .entry)))) (now (out .entry)) (r .number) (r .taken) (r .len) (now (state .exit)) (now (out .exit)) ⌝ }
 {
     let Found::At(place) = place_of(state) else {
-        return Fed {
-            number: UNSOUND,
-            taken: 0,
-            len: 0,
-        };
+        return without_data(UNSOUND, 0);
     };
     if out.len() < ROOM_DATA {
-        return Fed {
-            number: NO_ROOM,
-            taken: 0,
-            len: 0,
-        };
+        return without_data(NO_ROOM, 0);
     }
     let run = run_bytes(place, bytes, state);
     put_place(state, run.place);
     let taken = run.taken;
     let end = run.end;
     match end {
-        End::NoFrame => Fed {
-            number: NO_FRAME,
-            taken,
-            len: 0,
-        },
-        End::Paired => Fed {
-            number: BAD_PAIR,
-            taken,
-            len: 0,
-        },
-        End::Long => Fed {
-            number: TOO_LONG,
-            taken,
-            len: 0,
-        },
+        End::NoFrame => without_data(NO_FRAME, taken),
+        End::Paired => without_data(BAD_PAIR, taken),
+        End::Long => without_data(TOO_LONG, taken),
         End::ClosedWith(n) => {
             let last = n + 3;
             let w = close(address, &state[3..last], out);

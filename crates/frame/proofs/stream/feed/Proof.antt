@@ -5,10 +5,11 @@ use mathlib.Core.Path.{_≡_, sym, _∙_}
 use mathlib.Core.List.{List}
 use borrow.Author.Needs.{needs}
 use lib.ListN.{length, drop, length-take}
+use Rattle.protocol.specs.Numbers.{unsound, noRoom, noFrame, badPair, tooLong}
 use Rattle.protocol.specs.Buffer.{Emits}
 use Rattle.frame.specs.declared.stream.Found.the-variants.{At}
 use Rattle.frame.specs.Stream.{placeOf, standing, runFrom, outcome, fed, Feeds}
-use Rattle.frame.proofs.CallLaws.{feeds-formless, feeds-no-room, feeds-run, state-written, state-length, emits-none, emits-pair, emits-long, closed-content, emits-closed}
+use Rattle.frame.proofs.CallLaws.{feeds-formless, feeds-no-room, feeds-run, feeds-bare, state-written, state-length, emits-none, emits-pair, emits-long, closed-content, emits-closed}
 use Rattle.frame.proofs.stream.feed.Statement.{statement}
 use Rattle.frame.proofs.stream.feed.Tie as tie
 
@@ -56,24 +57,36 @@ enum-known-place c = search needs
 enum-told : tie.Need-enum-told
 enum-told c = search needs
 
+without-data-requires : tie.Need-without-data-requires
+without-data-requires c κs = search needs
+
 same-length : tie.Need-same-length
 same-length c = search needs
 
 returns : tie.Need-returns
 returns c =
-    let found = c .before .before in
+    let told = c .before in
+    let found = told .before .before in
     let start = found .before .before .before .before .before in
-    feeds-formless (start .args .address) (start .args .state .now) (start .args .bytes .now) (start .args .out .now) (sym (found .place-of .ensures) ∙ c .enum-told .given .1)
+    feeds-bare unsound 0 (c .without-data .ensures)
+    (feeds-formless (start .args .address) (start .args .state .now) (start .args .bytes .now) (start .args .out .now)
+    (sym (found .place-of .ensures) ∙ told .enum-told .given .1))
+
+without-data-requires-2 : tie.Need-without-data-requires-2
+without-data-requires-2 c κs = search needs
 
 same-length-2 : tie.Need-same-length-2
 same-length-2 c = search needs
 
 returns-2 : tie.Need-returns-2
 returns-2 c =
-    let told = c .before .before in
+    let small = c .before in
+    let told = small .before .before in
     let found = told .before .before in
     let start = found .before .before .before .before .before in
-    feeds-no-room (start .args .address) (start .args .state .now) (start .args .bytes .now) (start .args .out .now) (sym (found .place-of .ensures) ∙ told .place .given .1) (c .if1 .taken)
+    feeds-bare noRoom 0 (c .without-data2 .ensures)
+    (feeds-no-room (start .args .address) (start .args .state .now) (start .args .bytes .now) (start .args .out .now)
+    (sym (found .place-of .ensures) ∙ told .place .given .1) (small .if1 .taken))
 
 run-bytes-requires : tie.Need-run-bytes-requires
 run-bytes-requires c κs = at (c .before)
@@ -84,11 +97,20 @@ put-place-requires c κs = search needs
 enum-told-2 : tie.Need-enum-told-2
 enum-told-2 c = search needs
 
+without-data-requires-3 : tie.Need-without-data-requires-3
+without-data-requires-3 c κs = search needs
+
 enum-told-3 : tie.Need-enum-told-3
 enum-told-3 c = search needs
 
+without-data-requires-4 : tie.Need-without-data-requires-4
+without-data-requires-4 c κs = search needs
+
 enum-told-4 : tie.Need-enum-told-4
 enum-told-4 c = search needs
+
+without-data-requires-5 : tie.Need-without-data-requires-5
+without-data-requires-5 c κs = search needs
 
 enum-known-end : tie.Need-enum-known-end
 enum-known-end c = search needs
@@ -122,27 +144,33 @@ same-length-3 c = search needs
 
 returns-3 : tie.Need-returns-3
 returns-3 c =
-    let put = c .before .before .before .before in
+    let told = c .before in
+    let put = told .before .before .before .before in
     let start = entry-of put in
-    feeds-event put (emits-none (run-of put .run-bytes .ensures) (start .args .address) (start .args .out .now) (c .enum-told2 .given .1))
+    feeds-bare noFrame (run-of put .run-bytes .result .taken) (c .without-data3 .ensures)
+    (feeds-event put (emits-none (run-of put .run-bytes .ensures) (start .args .address) (start .args .out .now) (told .enum-told2 .given .1)))
 
 same-length-4 : tie.Need-same-length-4
 same-length-4 c = search needs
 
 returns-4 : tie.Need-returns-4
 returns-4 c =
-    let put = c .before .before .before .before in
+    let told = c .before in
+    let put = told .before .before .before .before in
     let start = entry-of put in
-    feeds-event put (emits-pair (run-of put .run-bytes .ensures) (start .args .address) (start .args .out .now) (c .enum-told3 .given .1))
+    feeds-bare badPair (run-of put .run-bytes .result .taken) (c .without-data4 .ensures)
+    (feeds-event put (emits-pair (run-of put .run-bytes .ensures) (start .args .address) (start .args .out .now) (told .enum-told3 .given .1)))
 
 same-length-5 : tie.Need-same-length-5
 same-length-5 c = search needs
 
 returns-5 : tie.Need-returns-5
 returns-5 c =
-    let put = c .before .before .before .before in
+    let told = c .before in
+    let put = told .before .before .before .before in
     let start = entry-of put in
-    feeds-event put (emits-long (run-of put .run-bytes .ensures) (start .args .address) (start .args .out .now) (c .enum-told4 .given .1))
+    feeds-bare tooLong (run-of put .run-bytes .result .taken) (c .without-data5 .ensures)
+    (feeds-event put (emits-long (run-of put .run-bytes .ensures) (start .args .address) (start .args .out .now) (told .enum-told4 .given .1)))
 
 same-length-6 : tie.Need-same-length-6
 same-length-6 c = search needs
@@ -164,15 +192,20 @@ feed-spec =
     place-of-requires
     enum-known-place
     enum-told
+    without-data-requires
     same-length
     returns
+    without-data-requires-2
     same-length-2
     returns-2
     run-bytes-requires
     put-place-requires
     enum-told-2
+    without-data-requires-3
     enum-told-3
+    without-data-requires-4
     enum-told-4
+    without-data-requires-5
     enum-known-end
     add-last
     sub-close
