@@ -11,6 +11,7 @@ ghost use Rattle.tree.specs.Seen.{textsFrom};
 ghost use Rattle.tree.specs.Check.{charactersIn, textsEndIn};
 ghost use Rattle.tree.specs.Lent.{foundOf};
 
+// A character is 20h to 7Eh (document 01, The tree).
 fn is_character(b: u8) -> bool
     ensures { λ r. ⌜ r ≡ isCharacter b ⌝ }
 {
