@@ -56,6 +56,7 @@ fn place_of(state: &[u8]) -> Found
     if 3 < phase {
         return Found::Formless;
     }
+    // A length up to 258 has 0 or 1 here.
     let high = wide(state[1]);
     if 1 < high {
         return Found::Formless;

@@ -7,7 +7,9 @@ use borrow.Author.Needs.{needs}
 use lib.ListN.{length, drop, length-take}
 use Rattle.protocol.specs.Numbers.{unsound, noRoom, noFrame, badPair, tooLong}
 use Rattle.protocol.specs.Buffer.{Emits}
+use Rattle.protocol.specs.Stream.{Event}
 use Rattle.frame.specs.declared.stream.Found.the-variants.{At}
+use Rattle.frame.specs.declared.stream.Fed.{Fed}
 use Rattle.frame.specs.Stream.{placeOf, standing, runFrom, outcome, fed, Feeds}
 use Rattle.frame.proofs.CallLaws.{feeds-formless, feeds-no-room, feeds-run, feeds-bare, state-written, state-length, emits-none, emits-pair, emits-long, closed-content, emits-closed}
 use Rattle.frame.proofs.stream.feed.Statement.{statement}
@@ -36,9 +38,11 @@ entry-of c = start-of (run-of c .before .before)
 abbrev lent : tie.After-put-place → List ℕ
 lent c = entry-of c .args .state .now
 
+abbrev event-of : tie.After-put-place → Event
+event-of c = runFrom (standing (lent c)) (lent c) (entry-of c .args .bytes .now) .event
+
 feeds-event : (c : tie.After-put-place) {n size : ℕ} {new : List ℕ}
-    → Emits (outcome (entry-of c .args .address) (runFrom (standing (lent c)) (lent c) (entry-of c .args .bytes .now) .event))
-    (entry-of c .args .out .now) n size new
+    → Emits (outcome (entry-of c .args .address) (event-of c)) (entry-of c .args .out .now) n size new
     → Feeds (fed (entry-of c .args .address) (lent c) (entry-of c .args .bytes .now) (length (entry-of c .args .out .now)))
     (entry-of c .args .out .now) n (run-of c .run-bytes .result .taken) size (c .put-place .last .0) new
 feeds-event c e =
@@ -47,6 +51,14 @@ feeds-event c e =
     let start = start-of else1 in
     feeds-run (start .args .address) (start .args .state .now) (start .args .bytes .now) (start .args .out .now) (at else1) (else1 .if1 .left)
     e (run .run-bytes .ensures .taken) (state-written (run .run-bytes .ensures) (c .put-place .ensures))
+
+-- A call that ended without data returns the number of its event.
+feeds-without : (c : tie.After-put-place) (n : ℕ) {r : Fed} → r ≡ record { number = n; taken = run-of c .run-bytes .result .taken; len = 0 }
+    → ((a : ℕ) (out : List ℕ) → Emits (outcome a (event-of c)) out n 0 out)
+    → Feeds (fed (entry-of c .args .address) (lent c) (entry-of c .args .bytes .now) (length (entry-of c .args .out .now)))
+    (entry-of c .args .out .now) (r .number) (r .taken) (r .len) (c .put-place .last .0) (entry-of c .args .out .now)
+feeds-without c n e emits =
+    feeds-bare n (run-of c .run-bytes .result .taken) e (feeds-event c (emits (entry-of c .args .address) (entry-of c .args .out .now)))
 
 place-of-requires : tie.Need-place-of-requires
 place-of-requires c κs = search needs
@@ -146,9 +158,7 @@ returns-3 : tie.Need-returns-3
 returns-3 c =
     let told = c .before in
     let put = told .before .before .before .before in
-    let start = entry-of put in
-    feeds-bare noFrame (run-of put .run-bytes .result .taken) (c .without-data3 .ensures)
-    (feeds-event put (emits-none (run-of put .run-bytes .ensures) (start .args .address) (start .args .out .now) (told .enum-told2 .given .1)))
+    feeds-without put noFrame (c .without-data3 .ensures) (λ a out. emits-none (run-of put .run-bytes .ensures) a out (told .enum-told2 .given .1))
 
 same-length-4 : tie.Need-same-length-4
 same-length-4 c = search needs
@@ -157,9 +167,7 @@ returns-4 : tie.Need-returns-4
 returns-4 c =
     let told = c .before in
     let put = told .before .before .before .before in
-    let start = entry-of put in
-    feeds-bare badPair (run-of put .run-bytes .result .taken) (c .without-data4 .ensures)
-    (feeds-event put (emits-pair (run-of put .run-bytes .ensures) (start .args .address) (start .args .out .now) (told .enum-told3 .given .1)))
+    feeds-without put badPair (c .without-data4 .ensures) (λ a out. emits-pair (run-of put .run-bytes .ensures) a out (told .enum-told3 .given .1))
 
 same-length-5 : tie.Need-same-length-5
 same-length-5 c = search needs
@@ -168,9 +176,7 @@ returns-5 : tie.Need-returns-5
 returns-5 c =
     let told = c .before in
     let put = told .before .before .before .before in
-    let start = entry-of put in
-    feeds-bare tooLong (run-of put .run-bytes .result .taken) (c .without-data5 .ensures)
-    (feeds-event put (emits-long (run-of put .run-bytes .ensures) (start .args .address) (start .args .out .now) (told .enum-told4 .given .1)))
+    feeds-without put tooLong (c .without-data5 .ensures) (λ a out. emits-long (run-of put .run-bytes .ensures) a out (told .enum-told4 .given .1))
 
 same-length-6 : tie.Need-same-length-6
 same-length-6 c = search needs
