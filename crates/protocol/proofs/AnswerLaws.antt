@@ -18,6 +18,7 @@ use Rattle.protocol.specs.Tree.{Node, Property, Tree, Cell, canRead, isL
 use Rattle.protocol.specs.Answer.{Outcome, saved, taken, readOnly, outOfRange, outcome, reason, writeNumber, stored, cellsAfter, echo, echoIndexed, nodeReply, recordReply, readReply, writeReply, Answer, plain, refuse, refusalCode, onRead, onWrite, onProperty, ifProperty, ifNode, perform, ifAsked, answer}
 use Rattle.protocol.proofs.TestLaws.{and-left, and-right, if-both, if-case, every-at, every-weaker}
 use Rattle.protocol.proofs.RequestLaws.{path-most}
+use Rattle.protocol.proofs.RuleLaws.{not-readable}
 
 -- What is read as a request fits the table.
 pub record Fits (a : Asked) : Type 0 where
@@ -262,14 +263,6 @@ answer-asked : (t : Tree) (cs : List Cell) (bs : List ℕ) (r : Request)
     → readRequest bs ≡ record { number = done; request = r } → answer t cs true bs ≡ perform t cs r
 unfolding answer ifAsked
 answer-asked t cs bs r h = ap (ifAsked t cs) h
-
-not-readable : (p : Property) (c : Cell) → isLive p ≡ true → c .ready ≡ false → readable p c ≡ false
-unfolding readable
-not-readable p c live unready = rw (live, unready) (go (canRead p))
-  where
-    go : (t : Bool) → (t && false) ≡ false
-    go true = refl
-    go false = refl
 
 -- A live probe that is not ready is answered 58, whatever its word.
 pub open-probe : (t : Tree) (cs : List Cell) (bs : List ℕ) (r : Request) (place : ℕ)

@@ -1,10 +1,12 @@
 -- Single rules of document 01, said once more in other words, so that a definition that is wrong in one of them fails here.
 -- Assumes nothing.
-use Prim.Native.Nat.{ℕ, suc, _+_, _-_, _%_, _^_, _<_, _≤_}
+use Prim.Native.Nat.{ℕ, zero, suc, _+_, _-_, _%_, _^_, _<_, _≤_}
 use native.Mathlib.Omega.{arith}
+use native.Mathlib.Nat.{not-suc-le-zero}
 use mathlib.Core.Path.{_≡_, refl, ap, _∙_}
-use mathlib.Core.Bool.{Bool, true, false, cond, _&&_}
+use mathlib.Core.Bool.{Bool, true, false, cond, and-false, _&&_}
 use mathlib.Core.List.{List, [], _∷_}
+use mathlib.Core.Option.{none, some}
 use borrow.Author.Tests.{ltb-true, ltb-false, le-leb, lt-leb}
 use lib.ListN.{length, set}
 use lib.Seq.{getD-set-same, getD-set-other}
@@ -16,7 +18,7 @@ use mir.Val.{toZ}
 use Rattle.protocol.specs.Numbers.{done, disabled, notLive, DISABLED, standard, enumeration, wordEnd}
 use Rattle.protocol.specs.Bytes.{sum, ordered, atMost, every, text, texts}
 use Rattle.protocol.specs.Frame.{checksum}
-use Rattle.protocol.specs.Tree.{Property, Tree, Cell, isSigned, isLive, propertyIn, cellIn, posted, post, sound, nodesSound, propertiesSound, propertySound, parentsSound, parentsFrom, depthsSound, depthsAfter, liveSound, kindSound, standardSound, enumerationSound, isName, optionsSound, cellsSound}
+use Rattle.protocol.specs.Tree.{Property, Tree, Cell, canRead, isSigned, isLive, propertyIn, cellIn, readable, reading, restoredCell, restored, posted, post, sound, nodesSound, propertiesSound, propertySound, parentsSound, parentsFrom, depthsSound, depthsAfter, liveSound, kindSound, standardSound, enumerationSound, isName, optionsSound, cellsSound}
 use Rattle.protocol.specs.Answer.{inRange, plain, refusalCode, answer}
 use Rattle.protocol.specs.Bench.{benchTree, benchCells}
 use Rattle.protocol.proofs.TestLaws.{leb-same}
@@ -117,6 +119,34 @@ post-others t cs place w ready k h = go (takesPosts t place) refl
         ap (λ p. cellIn (p .cells) k) (post-by t cs place w ready true e)
         ∙ getD-set-other cs place k (posted (cellIn cs place) w ready) _ h
     go false e = ap (λ p. cellIn (p .cells) k) (post-by t cs place w ready false e)
+
+-- A reading: with read, and ready where it is live, the word of the cell; else none. An open probe has none.
+pub reading-word : (p : Property) (c : Cell) → readable p c ≡ true → reading p c ≡ some (c .word)
+unfolding reading
+reading-word p c e = rw e
+
+pub no-reading : (p : Property) (c : Cell) → readable p c ≡ false → reading p c ≡ none
+unfolding reading
+no-reading p c e = rw e
+
+pub not-readable : (p : Property) (c : Cell) → isLive p ≡ true → c .ready ≡ false → readable p c ≡ false
+unfolding readable
+not-readable p c live unready = rw (live, unready) (and-false (canRead p))
+
+-- Saved cells lent again, cell by cell.
+pub restored-cell : (ps : List Property) (cs : List Cell) (k : ℕ) → k < length ps → k < length cs
+    → cellIn (restored ps cs) k ≡ restoredCell (propertyIn (record { nodes = []; properties = ps }) k) (cellIn cs k)
+unfolding restored
+restored-cell [] cs k h j = absurd (not-suc-le-zero h)
+restored-cell (p ∷ ps) [] k h j = absurd (not-suc-le-zero j)
+restored-cell (p ∷ ps) (c ∷ cs) zero h j = refl
+restored-cell (p ∷ ps) (c ∷ cs) (suc k) h j = restored-cell ps cs k (omega (arith, h)) (omega (arith, j))
+
+pub restored-length : (ps : List Property) (cs : List Cell) → length (restored ps cs) ≡ length cs
+unfolding restored
+restored-length [] cs = refl
+restored-length (p ∷ ps) [] = refl
+restored-length (p ∷ ps) (c ∷ cs) = ap suc (restored-length ps cs)
 
 -- The bench tree keeps every rule, and its cells fit it.
 pub bench-sound : sound benchTree ≡ true

@@ -187,10 +187,27 @@ cellsSound t cs = eqb (length cs) (length (t .properties)) && every (λ c. ltb (
 unfoldable pub readable : Property → Cell → Bool
 readable p c = canRead p && cond (isLive p) (c .ready) true
 
+-- The number that a property has to read, or none.
+unfoldable pub reading : Property → Cell → Option ℕ
+reading p c = cond (readable p c) (some (c .word)) none
+
+-- House: saved cells that are lent again. What was read before the restart is no reading: a live property is not ready until the
+-- converter posts to it. Its word, and the cell of any other property, stay.
+abbrev pub unready : Cell → Cell
+unready c = record { word = c .word; ready = false }
+
+abbrev pub restoredCell : Property → Cell → Cell
+restoredCell p c = cond (isLive p) (unready c) c
+
+unfoldable pub restored : List Property → List Cell → List Cell
+restored [] cs = cs
+restored (p ∷ ps) [] = []
+restored (p ∷ ps) (c ∷ cs) = restoredCell p c ∷ restored ps cs
+
 -- A cell that the converter posted to: marked not ready it keeps its word.
 abbrev pub posted : Cell → ℕ → Bool → Cell
 posted c w true = record { word = w; ready = true }
-posted c w false = record { word = c .word; ready = false }
+posted c w false = unready c
 
 pub record Posting : Type 0 where
   pub number : ℕ

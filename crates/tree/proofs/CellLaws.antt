@@ -22,7 +22,7 @@ use Rattle.protocol.proofs.ListLaws.{number-word, word-number, bytes-cons, byte
 use Rattle.protocol.proofs.BufferLaws.{set-put, length-put}
 use Rattle.tree.specs.Seen.{wordAt, recordsFrom, same, seen, isTree}
 use Rattle.tree.specs.Cells.{cellSize, markOf, cellForm, cellsForm, cellSeen, cellsIn, hasCells, cellsOf, withWord, withMark}
-use Rattle.tree.specs.Lent.{isLent, lentNumber, postIn, Posts}
+use Rattle.tree.specs.Lent.{isLent, lentNumber, postIn, Updates}
 use Rattle.tree.proofs.FoundLaws.{if-some}
 use Rattle.tree.proofs.RecordLaws.{records-length, records-at}
 use Rattle.tree.proofs.NumberLaws.{bytes-none, bytes-append, word-bytes, word-fits, word-behind}
@@ -274,7 +274,7 @@ module _ (offset : ℕ) (bytes : List ℕ) (change : Cell → Cell)
 abbrev pub withNumber : ℕ → Cell → Cell
 withNumber w c = record { word = w; ready = c .ready }
 
-abbrev marked : Bool → Cell → Cell
+abbrev pub marked : Bool → Cell → Cell
 marked t c = record { word = c .word; ready = t }
 
 word-here : (w : ℕ) (c : Cell) (bs : List ℕ) → putAt 0 (word w) (cellForm c ++ bs) ≡ cellForm (withNumber w c) ++ bs
@@ -292,7 +292,7 @@ word-stored cs k w =
     (sym (add-zero (k * cellSize)))
     ∙ store-cell 0 (word w) (withNumber w) (word-here w) cs k
 
-mark-stored : (cs : List Cell) (k : ℕ) (t : Bool) → withMark k t (cellsForm cs) ≡ cellsForm (set cs k (marked t (cellIn cs k)))
+pub mark-stored : (cs : List Cell) (k : ℕ) (t : Bool) → withMark k t (cellsForm cs) ≡ cellsForm (set cs k (marked t (cellIn cs k)))
 unfolding withMark
 mark-stored cs k t = store-cell 4 (markOf t ∷ []) (marked t) (mark-here t) cs k
 
@@ -424,22 +424,22 @@ module _ (tree cells : List ℕ) where
       form-of cells (and-left (hasCells cells) _ rest)
 
 module _ (tree cells : List ℕ) (k w : ℕ) (ready : Bool) where
-  pub posts-unsound : {n : ℕ} → n ≡ lentNumber tree cells → (n ≡ done → ⊥) → Posts (postIn tree cells k w ready) unsound cells
+  pub posts-unsound : {n : ℕ} → n ≡ lentNumber tree cells → (n ≡ done → ⊥) → Updates (postIn tree cells k w ready) unsound cells
   unfolding lentNumber postIn
   posts-unsound {n} e h = go (isLent tree cells) refl
     where
-      go : (t : Bool) → isLent tree cells ≡ t → Posts (postIn tree cells k w ready) unsound cells
+      go : (t : Bool) → isLent tree cells ≡ t → Updates (postIn tree cells k w ready) unsound cells
       go true q = absurd (h (e ∙ rw q))
       go false q = rw q (record { number = refl; bytes = refl })
 
-  pub posts-other : isLent tree cells ≡ true → isLive (propertyIn (seen tree) k) ≡ false → Posts (postIn tree cells k w ready) notLive cells
+  pub posts-other : isLent tree cells ≡ true → isLive (propertyIn (seen tree) k) ≡ false → Updates (postIn tree cells k w ready) notLive cells
   unfolding postIn
   posts-other e h =
       let is = post-other (seen tree) (cellsIn cells) k w ready h in
       rw e (record { number = sym (ap (λ p. p .number) is); bytes = lent-form tree cells e ∙ ap (λ p. cellsForm (p .cells)) (sym is) })
 
   pub posts-live : {mid new : List ℕ} → isLent tree cells ≡ true → isLive (propertyIn (seen tree) k) ≡ true
-      → mid ≡ worded cells k w ready → new ≡ withMark k ready mid → Posts (postIn tree cells k w ready) done new
+      → mid ≡ worded cells k w ready → new ≡ withMark k ready mid → Updates (postIn tree cells k w ready) done new
   unfolding postIn
   posts-live e h f g =
       let is = post-live (seen tree) (cellsIn cells) k w ready h in

@@ -43,3 +43,9 @@ pub enum Found {
     At(usize),
     Nothing,
 }
+
+// The number that a property has to read, or that there is none.
+pub enum Reading {
+    Word(u32),
+    Nothing,
+}

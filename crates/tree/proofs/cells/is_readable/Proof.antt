@@ -1,15 +1,15 @@
--- `answer::answer::is_readable` meets its contract. Assumes nothing.
+-- `tree::cells::is_readable` meets its contract. Assumes nothing.
 use mathlib.Core.Path.{_≡_, refl, sym, ap, _∙_}
 use borrow.Author.Needs.{needs}
 use borrow.Author.Tests.{not-true, not-false}
 use Rattle.protocol.specs.Numbers.{bitRead, bitLive}
 use Rattle.protocol.specs.Bytes.{bit}
 use Rattle.protocol.specs.Tree.{Property, Cell, canRead, isLive, propertyIn, cellIn}
 use Rattle.tree.specs.Seen.{seen}
 use Rattle.tree.specs.Cells.{cellsIn}
-use Rattle.answer.proofs.AnswerLaws.{readable-by}
-use Rattle.answer.proofs.answer.is_readable.Statement.{statement}
-use Rattle.answer.proofs.answer.is_readable.Tie as tie
+use Rattle.tree.proofs.ReadingLaws.{readable-by}
+use Rattle.tree.proofs.cells.is_readable.Statement.{statement}
+use Rattle.tree.proofs.cells.is_readable.Tie as tie
 
 -- The property and its cell.
 abbrev property-of : tie.Start → Property
