@@ -11,7 +11,7 @@ use lib.ListN.{length, set}
 use Rattle.protocol.specs.Numbers.{done, disabled, badParameter, noReading, ACK, opDetect, opNode, opRecord, opRead}
 use Rattle.protocol.specs.Buffer.{Put}
 use Rattle.protocol.specs.Request.{Request, Asked, Allowed}
-use Rattle.protocol.specs.Tree.{Property, Tree, Cell, canRead, isLive, propertyOf, nodeAt, propertyIn, cellIn, sound, readable}
+use Rattle.protocol.specs.Tree.{Property, Tree, Cell, propertyOf, nodeAt, propertyIn, cellIn, sound, readable}
 use Rattle.protocol.specs.Answer.{Outcome, inRange, outcome, writeNumber, stored, cellsAfter, actionOf, nodeReply, recordReply, readReply, writeReply, Answer, plain, refuse, refusalCode, onRead, onWrite, onProperty, ifProperty, ifNode, perform, ifAsked}
 use Rattle.protocol.proofs.TestLaws.{and-left, and-right}
 use Rattle.protocol.proofs.RequestLaws.{fitting, path-most}
@@ -42,12 +42,6 @@ module _ (tree cells : List ℕ) (lent : isLent tree cells ≡ true) where
 
   pub record-short : (r : Request) → Allowed r → (place : ℕ) → length (recordReply (propertyIn (seen tree) place) r) ≤ 256
   record-short r h place = record-size r (path-most r (fitting r h .rest)) (seen tree) short place .most
-
--- Row 12, test by test.
-pub readable-by : (p : Property) (c : Cell) {reads live ready : Bool} → canRead p ≡ reads → isLive p ≡ live → c .ready ≡ ready
-    → (reads && cond live ready true) ≡ readable p c
-unfolding readable
-readable-by p c e f g = rw (e, f, g)
 
 -- What a write does turns on the property's numbers alone.
 pub outcome-same : (v : ℕ) {p : Property} {f : Fields} → FieldsAre p f → outcome (numbersOf f) v ≡ outcome p v

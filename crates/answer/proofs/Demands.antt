@@ -1,9 +1,10 @@
--- Demands 1 and 2 over the serving calls, by any road: theorems about every call that meets its promise.
+-- Demands 1 and 2 over the serving calls, by any road, and over postings, readings and restored cells: theorems about every call
+-- that meets its promise.
 -- Assumes nothing.
 use Prim.Native.Nat.{ℕ, zero, suc, _<_, _≤_}
 use native.Mathlib.Omega.{arith}
 use mathlib.Core.Path.{_≡_, refl, sym, ap, _∙_}
-use mathlib.Core.Bool.{Bool, true, false, cond, _&&_}
+use mathlib.Core.Bool.{Bool, true, false, cond, false≢true, _&&_}
 use mathlib.Core.List.{List, [], _∷_}
 use mathlib.Core.Option.{Option, none, some}
 use mathlib.Core.Logic.{_⊎_, inl, inr}
@@ -14,15 +15,15 @@ use Rattle.protocol.specs.Numbers.{done, unsound, noRoom, disabled, badParamete
 use Rattle.protocol.specs.Bytes.{Bytes, every}
 use Rattle.protocol.specs.Buffer.{over}
 use Rattle.protocol.specs.Request.{Request, pathFits, indexFits, fits, readRequest}
-use Rattle.protocol.specs.Tree.{Tree, Cell, isLive, propertyOf, nodeAt, propertyIn, cellIn, cellsSound, readable, Posting, posted, post}
+use Rattle.protocol.specs.Tree.{Property, Tree, Cell, isLive, propertyOf, nodeAt, propertyIn, cellIn, cellsSound, readable, reading, unready, restoredCell, restored, Posting, posted, post}
 use Rattle.protocol.specs.Answer.{Answer, plain, stored, Outcome, saved, taken, readOnly, outOfRange, outcome, saveByte, writeNumber, writeReply, refusalCode, refuse, onRead, onWrite, onProperty, ifProperty, ifNode, perform, ifAsked, answer}
 use Rattle.protocol.proofs.TestLaws.{and-left, and-right, and-both, if-both, if-case}
 use Rattle.protocol.proofs.BufferLaws.{over-nil}
 use Rattle.protocol.proofs.AnswerLaws.{readRequest-fits, Finds, open-probe, Saves, Changes, none-changed, one-written, changes, write-accepted, write-holds, saved-done, others-stay, refusal-keeps}
-use Rattle.protocol.proofs.RuleLaws.{host-off}
+use Rattle.protocol.proofs.RuleLaws.{host-off, reading-some, not-readable, restored-cell}
 use Rattle.tree.specs.Seen.{seen, isTree}
 use Rattle.tree.specs.Cells.{cellsForm, cellsIn, hasCells}
-use Rattle.tree.specs.Lent.{isLent, Posted, Posts, postIn}
+use Rattle.tree.specs.Lent.{isLent, Update, Updates, postIn, Read, Reads, readOf, readIn, orElse, restoreIn}
 use Rattle.tree.proofs.CellLaws.{inWidth, cells-in-form, cells-fit, lent-form}
 use Rattle.answer.specs.Serve.{turnedAway, inForm, Call, serving, dataCall, serialCall, udpCall, serveData, serveSerial, serveUdp, Serves}
 use Rattle.answer.proofs.ReadLaws.{readRequest-told, Early, early-sized, early-frame, early-datagram}
@@ -284,7 +285,7 @@ module _ (room : ℕ) (bs : List ℕ) (host : Bool) (tree cells : List ℕ) {out
   udp-kept h = kept (udpCall room bs host tree cells) (early-datagram bs) h
 
 -- Refusals 1 and 14 of a posting change no cell.
-pub post-kept : (tree cells : List ℕ) (place w : ℕ) (ready : Bool) {n : ℕ} {cells′ : List ℕ} → Posts (postIn tree cells place w ready) n cells′
+pub post-kept : (tree cells : List ℕ) (place w : ℕ) (ready : Bool) {n : ℕ} {cells′ : List ℕ} → Updates (postIn tree cells place w ready) n cells′
     → (n ≡ done → ⊥) → cells′ ≡ cells
 unfolding postIn post
 post-kept tree cells place w ready {n} {cells′} h u =
@@ -296,10 +297,108 @@ post-kept tree cells place w ready {n} {cells′} h u =
     given : Bool → Posting
     given v = cond v (record { number = done; cells = changed }) (record { number = notLive; cells = cellsIn cells })
 
-    told : Bool → Bool → Posted
+    told : Bool → Bool → Update
     told t v = cond t (record { number = given v .number; bytes = cellsForm (given v .cells) }) (record { number = unsound; bytes = cells })
 
     go : (t v : Bool) → isLent tree cells ≡ t → n ≡ told t v .number → cells′ ≡ told t v .bytes → cells′ ≡ cells
     go true true l e f = absurd (u e)
     go true false l e f = f ∙ sym (lent-form tree cells l)
     go false v l e f = f
+
+-- A reading asked for by place: with 0 it is the word of a property that has a number to read; with any other number, and for a
+-- live probe that is not ready always, what lay at the lent place stays.
+pub record ReadingKept (tree cells : List ℕ) (place old n word : ℕ) : Type 0 where
+  pub refusals : (n ≡ done → ⊥) → word ≡ old
+  pub numbers : n ≡ done
+      → (readable (propertyIn (seen tree) place) (cellIn (cellsIn cells) place) ≡ true) × (word ≡ cellIn (cellsIn cells) place .word)
+  pub open-probes : isLive (propertyIn (seen tree) place) ≡ true → cellIn (cellsIn cells) place .ready ≡ false → (n ≡ done → ⊥) × (word ≡ old)
+
+pub reading-kept : (tree cells : List ℕ) (place old : ℕ) {n word : ℕ} → Reads (readIn tree cells place) old n word
+    → ReadingKept tree cells place old n word
+unfolding readIn
+reading-kept tree cells place old {n} {word} h = go (isLent tree cells) (ltb place (length (seen tree .properties))) (h .number) (h .word-is)
+  where
+    p : Property
+    p = propertyIn (seen tree) place
+
+    c : Cell
+    c = cellIn (cellsIn cells) place
+
+    given : Bool → Bool → Read
+    given t u =
+        cond t (cond u (readOf (reading p c)) (record { number = badParameter; word = none })) (record { number = unsound; word = none })
+
+    none-told : (m : ℕ) → (m ≡ done → ⊥) → n ≡ m → word ≡ old → ReadingKept tree cells place old n word
+    none-told m u e f =
+        record {
+          refusals = λ v. f;
+          numbers = λ d. absurd (u (sym e ∙ d));
+          open-probes = λ l r. (λ d. u (sym e ∙ d), f);
+        }
+
+    found : (o : Option ℕ) → reading p c ≡ o → n ≡ readOf o .number → word ≡ orElse old (readOf o .word) → ReadingKept tree cells place old n word
+    found none is e f = none-told noReading (λ d. omega (arith, d)) e f
+    found (some m) is e f =
+        let has = reading-some p c is in
+        record {
+          refusals = λ v. absurd (v e);
+          numbers = λ d. (has .0, f ∙ sym (has .1));
+          open-probes = λ l r. absurd (false≢true (sym (not-readable p c l r) ∙ has .0));
+        }
+
+    go : (t u : Bool) → n ≡ given t u .number → word ≡ orElse old (given t u .word) → ReadingKept tree cells place old n word
+    go true true e f = found (reading p c) refl e f
+    go true false e f = none-told badParameter (λ d. omega (arith, d)) e f
+    go false u e f = none-told unsound (λ d. omega (arith, d)) e f
+
+-- Saved cells lent again: 1 changes no cell; with 0 no live property is ready, its word stays, and so does every other cell.
+pub record RestoreKept (tree cells : List ℕ) (n : ℕ) (cells′ : List ℕ) : Type 0 where
+  pub refusals : (n ≡ done → ⊥) → cells′ ≡ cells
+  pub live : Bytes cells → n ≡ done → (place : ℕ) → isLive (propertyIn (seen tree) place) ≡ true
+      → cellIn (cellsIn cells′) place ≡ unready (cellIn (cellsIn cells) place)
+  pub others : Bytes cells → n ≡ done → (place : ℕ) → isLive (propertyIn (seen tree) place) ≡ false
+      → cellIn (cellsIn cells′) place ≡ cellIn (cellsIn cells) place
+
+restored-width : (ps : List Property) (cs : List Cell) → inWidth cs ≡ true → inWidth (restored ps cs) ≡ true
+unfolding restored every
+restored-width [] cs h = h
+restored-width (p ∷ ps) [] h = refl
+restored-width (p ∷ ps) (c ∷ cs) h =
+    and-both (go (isLive p)) (restored-width ps cs (and-right (ltb (c .word) wordEnd) (inWidth cs) h))
+  where
+    go : (t : Bool) → ltb (cond t (unready c) c .word) wordEnd ≡ true
+    go true = and-left (ltb (c .word) wordEnd) (inWidth cs) h
+    go false = and-left (ltb (c .word) wordEnd) (inWidth cs) h
+
+pub restore-kept : (tree cells : List ℕ) {n : ℕ} {cells′ : List ℕ} → Updates (restoreIn tree cells) n cells′ → RestoreKept tree cells n cells′
+unfolding restoreIn
+restore-kept tree cells {n} {cells′} h = go (isLent tree cells) (h .number) (h .bytes)
+  where
+    after : List Cell
+    after = restored (seen tree .properties) (cellsIn cells)
+
+    told : Bool → Update
+    told t = cond t (record { number = done; bytes = cellsForm after }) (record { number = unsound; bytes = cells })
+
+    each : Bytes cells → cells′ ≡ cellsForm after → (place : ℕ)
+        → cellIn (cellsIn cells′) place ≡ restoredCell (propertyIn (seen tree) place) (cellIn (cellsIn cells) place)
+    each all e place =
+        ap (λ l. cellIn (cellsIn l) place) e
+        ∙ ap (λ cs. cellIn cs place) (cells-in-form after (restored-width (seen tree .properties) (cellsIn cells) (cells-fit cells all)))
+        ∙ restored-cell (seen tree .properties) (cellsIn cells) place
+
+    go : (t : Bool) → n ≡ told t .number → cells′ ≡ told t .bytes → RestoreKept tree cells n cells′
+    go true e f =
+        record {
+          refusals = λ u. absurd (u e);
+          live = λ all d place l.
+              each all f place ∙ ap (λ t. cond t (unready (cellIn (cellsIn cells) place)) (cellIn (cellsIn cells) place)) l;
+          others = λ all d place l.
+              each all f place ∙ ap (λ t. cond t (unready (cellIn (cellsIn cells) place)) (cellIn (cellsIn cells) place)) l;
+        }
+    go false e f =
+        record {
+          refusals = λ u. f;
+          live = λ all d. absurd (omega (arith, sym e ∙ d));
+          others = λ all d. absurd (omega (arith, sym e ∙ d));
+        }

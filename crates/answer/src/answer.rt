@@ -21,6 +21,7 @@ use request::OP_NODE;
 use request::OP_READ;
 use request::UNKNOWN_COMMAND;
 use tree::Found;
+use tree::Reading;
 use tree::cells;
 use tree::find;
 use tree::record;
@@ -30,7 +31,7 @@ ghost use mathlib.Core.Option.{some};
 ghost use Prim.Native.Nat.{_≤_, _<_};
 ghost use lib.ListN.{length};
 ghost use Rattle.protocol.specs.Numbers.{done, opDetect, opNode, opRead};
-ghost use Rattle.protocol.specs.Tree.{propertyIn, cellIn, readable};
+ghost use Rattle.protocol.specs.Tree.{propertyIn};
 ghost use Rattle.protocol.specs.Answer.{refusalCode, onRead, onWrite, onProperty, ifNode, perform, outcome};
 ghost use Rattle.tree.specs.Seen.{seen};
 ghost use Rattle.tree.specs.Cells.{cellsIn};
@@ -64,31 +65,17 @@ fn refuse(number: u8, out: &mut [u8]) -> Served
     }
 }
 
-// Row 12: whether the property at a place has a number to read.
-fn is_readable(tree: &[u8], cells: &[u8], place: usize) -> bool
-    ensures { λ r. ⌜ r ≡ readable (propertyIn (seen (now (tree .entry))) place) (cellIn (cellsIn (now (cells .entry))) place) ⌝ }
-{
-    let f = record::read_fields(tree, place);
-    if !f.can_read() {
-        return false;
-    }
-    if !f.is_live() {
-        return true;
-    }
-    cells::is_ready(cells, place)
-}
-
 // Op 3.
 fn on_read(tree: &[u8], cells: &[u8], place: usize, asked: Asked, out: &mut [u8]) -> Served
     requires { ⌜ (256 ≤ length (now out)) × ((isLent (now tree) (now cells) ≡ true) × (Asks asked × (asked .op ≡ opRead))) ⌝ }
     ensures { λ r. ⌜ Answers (onRead (cellsIn (now (cells .entry))) (propertyIn (seen (now (tree .entry))) place) place (requestIn asked)) (now (out .entry)) (r .number) (r .len) (r .action) (now (cells .entry)) (now (out .exit)) ⌝ }
 {
-    if !is_readable(tree, cells, place) {
+    let Reading::Word(n) = cells::reading(tree, cells, place) else {
         return refuse(NO_READING, out);
-    }
+    };
     Served {
         number: DONE,
-        len: reply::put_reading(cells::read_word(cells, place), asked, out),
+        len: reply::put_reading(n, asked, out),
         action: NO_ACTION,
     }
 }

@@ -2,11 +2,10 @@
 -- Assumes nothing.
 use Prim.Native.Nat.{ℕ, zero, suc, _+_, _-_, _%_, _^_, _<_, _≤_}
 use native.Mathlib.Omega.{arith}
-use native.Mathlib.Nat.{not-suc-le-zero}
-use mathlib.Core.Path.{_≡_, refl, ap, _∙_}
+use mathlib.Core.Path.{_≡_, refl, sym, ap, _∙_}
 use mathlib.Core.Bool.{Bool, true, false, cond, and-false, _&&_}
 use mathlib.Core.List.{List, [], _∷_}
-use mathlib.Core.Option.{none, some}
+use mathlib.Core.Option.{none, some, Option·none-ne-some, Option·some-injective}
 use borrow.Author.Tests.{ltb-true, ltb-false, le-leb, lt-leb}
 use lib.ListN.{length, set}
 use lib.Seq.{getD-set-same, getD-set-other}
@@ -129,18 +128,45 @@ pub no-reading : (p : Property) (c : Cell) → readable p c ≡ false → readin
 unfolding reading
 no-reading p c e = rw e
 
+pub reading-some : (p : Property) (c : Cell) {n : ℕ} → reading p c ≡ some n → (readable p c ≡ true) × (c .word ≡ n)
+unfolding reading
+reading-some p c {n} = go (readable p c)
+  where
+    go : (t : Bool) → cond t (some (c .word)) none ≡ some n → (t ≡ true) × (c .word ≡ n)
+    go true e = (refl, Option·some-injective _ _ e)
+    go false e = absurd (Option·none-ne-some _ e)
+
+pub reading-none : (p : Property) (c : Cell) → reading p c ≡ none → readable p c ≡ false
+unfolding reading
+reading-none p c = go (readable p c)
+  where
+    go : (t : Bool) → cond t (some (c .word)) none ≡ none → t ≡ false
+    go true e = absurd (Option·none-ne-some _ (sym e))
+    go false e = refl
+
 pub not-readable : (p : Property) (c : Cell) → isLive p ≡ true → c .ready ≡ false → readable p c ≡ false
 unfolding readable
 not-readable p c live unready = rw (live, unready) (and-false (canRead p))
 
 -- Saved cells lent again, cell by cell.
-pub restored-cell : (ps : List Property) (cs : List Cell) (k : ℕ) → k < length ps → k < length cs
-    → cellIn (restored ps cs) k ≡ restoredCell (propertyIn (record { nodes = []; properties = ps }) k) (cellIn cs k)
+abbrev propertyAt : List Property → ℕ → Property
+propertyAt ps k = propertyIn (record { nodes = []; properties = ps }) k
+
+no-cell : (p : Property) → record { word = 0; ready = false } ≡ restoredCell p (record { word = 0; ready = false })
+no-cell p = go (isLive p)
+  where
+    go : (t : Bool) → _≡_ {A = Cell} (record { word = 0; ready = false }) (cond t (record { word = 0; ready = false }) (record { word = 0; ready = false }))
+    go true = refl
+    go false = refl
+
+pub restored-cell : (ps : List Property) (cs : List Cell) (k : ℕ) → cellIn (restored ps cs) k ≡ restoredCell (propertyAt ps k) (cellIn cs k)
 unfolding restored
-restored-cell [] cs k h j = absurd (not-suc-le-zero h)
-restored-cell (p ∷ ps) [] k h j = absurd (not-suc-le-zero j)
-restored-cell (p ∷ ps) (c ∷ cs) zero h j = refl
-restored-cell (p ∷ ps) (c ∷ cs) (suc k) h j = restored-cell ps cs k (omega (arith, h)) (omega (arith, j))
+restored-cell [] cs zero = refl
+restored-cell [] cs (suc k) = refl
+restored-cell (p ∷ ps) [] zero = no-cell p
+restored-cell (p ∷ ps) [] (suc k) = no-cell (propertyAt ps k)
+restored-cell (p ∷ ps) (c ∷ cs) zero = refl
+restored-cell (p ∷ ps) (c ∷ cs) (suc k) = restored-cell ps cs k
 
 pub restored-length : (ps : List Property) (cs : List Cell) → length (restored ps cs) ≡ length cs
 unfolding restored

@@ -3,10 +3,11 @@ use Prim.Native.Nat.{ℕ, _*_}
 use mathlib.Core.Path.{_≡_}
 use mathlib.Core.Bool.{Bool, cond, not, _&&_}
 use mathlib.Core.List.{List}
-use lib.ListN.{length, replicate}
+use lib.ListN.{length, take, drop, replicate}
 use lib.Dec.{eqb}
 use Rattle.protocol.specs.Numbers.{done, unsound}
-use Rattle.protocol.specs.Request.{Asked}
+use Rattle.protocol.specs.Frame.{Received}
+use Rattle.protocol.specs.Request.{Request, Asked}
 use Rattle.frame.specs.Stream.{stateLength}
 use Rattle.request.specs.Asked.{padded}
 use Rattle.tree.specs.Cells.{cellSize}
@@ -33,11 +34,33 @@ cellsSize tree = cond (isTree tree) (length (seen tree .properties) * cellSize) 
 abbrev pub isCellsSized : List ℕ → List ℕ → Bool
 isCellsSized tree cells = isTree tree && eqb (length cells) (cellsSize tree)
 
--- What was read, handed back in numbers and 16 bytes.
-pub record HandsBack (a : Asked) (n op : ℕ) (path : List ℕ) (len index value : ℕ) : Type 0 where
+-- A tree alone: row 1, or 0.
+unfoldable pub treeNumber : List ℕ → ℕ
+treeNumber tree = cond (isTree tree) done unsound
+
+-- A request's fields, as C is handed them: op, 16 bytes of path, its length, index and value.
+pub record Handed : Type 0 where
+  pub op : ℕ
+  pub path : List ℕ
+  pub path-len : ℕ
+  pub index : ℕ
+  pub value : ℕ
+
+abbrev pub handed : ℕ → List ℕ → ℕ → ℕ → ℕ → Handed
+handed op path path-len index value =
+    record { op = op; path = path; path-len = path-len; index = index; value = value }
+
+abbrev pub fieldsOf : Request → Handed
+fieldsOf r = handed (r .op) (padded (r .path)) (length (r .path)) (r .index) (r .value)
+
+-- What was read, handed back: with 0 the fields of the request; with any other number they are left as they were.
+pub record HandsBack (a : Asked) (old : Handed) (n : ℕ) (new : Handed) : Type 0 where
   pub number : n ≡ a .number
-  pub op-is : op ≡ a .request .op
-  pub path-is : path ≡ padded (a .request .path)
-  pub len-is : len ≡ length (a .request .path)
-  pub index-is : index ≡ a .request .index
-  pub value-is : value ≡ a .request .value
+  pub fields : new ≡ cond (eqb (a .number) done) (fieldsOf (a .request)) old
+
+-- Where a datagram's data stands in it: behind four bytes; of a refused one, 0 and 0, an empty part.
+pub record Locates (what : Received) (s : List ℕ) (n offset len : ℕ) : Type 0 where
+  pub number : n ≡ what .number
+  pub offset-is : offset ≡ cond (eqb (what .number) done) 4 0
+  pub len-is : len ≡ length (what .payload)
+  pub part : take len (drop offset s) ≡ what .payload

@@ -1,22 +1,25 @@
 // The C interface of the box (include/pualirqiq.h): every call on numbers and byte slices, thin over the crates below.
+use answer::NO_READING;
 use protocol::DONE;
 use protocol::PropertyIndex;
 use protocol::UNSOUND;
+use request::Asked;
+use request::BAD_PARAMETER;
+use tree::Reading;
 ghost use mathlib.Core.Path.{_≡_};
 ghost use mathlib.Core.Bool.{true};
 ghost use lib.ListN.{length};
-ghost use Rattle.protocol.specs.Numbers.{roomSerial, roomUdp};
-ghost use Rattle.protocol.specs.Frame.{ifRoom, writeFrame, writeDatagram};
+ghost use Rattle.protocol.specs.Numbers.{roomData, roomSerial, roomUdp};
+ghost use Rattle.protocol.specs.Frame.{ifRoom, readFrame, readDatagram, writeFrame, writeDatagram};
 ghost use Rattle.protocol.specs.Buffer.{Emits};
+ghost use Rattle.protocol.specs.Request as rule;
 ghost use Rattle.protocol.specs.Request.{readSerial, readUdp, serialForm, udpForm};
-ghost use Rattle.protocol.specs.Tree.{cellIn};
 ghost use Rattle.frame.specs.Stream.{stateLength, fed, Feeds};
-ghost use Rattle.request.specs.Asked.{requestOf};
+ghost use Rattle.request.specs.Asked.{requestOf, AskedIs};
 ghost use Rattle.request.specs.Write.{writeRequest};
-ghost use Rattle.tree.specs.Cells.{markOf, cellsIn};
-ghost use Rattle.tree.specs.Lent.{lentNumber, Posts, postIn};
+ghost use Rattle.tree.specs.Lent.{lentNumber, Updates, postIn, restoreIn, Reads, readIn};
 ghost use Rattle.answer.specs.Serve.{serveData, serveSerial, serveUdp, Serves};
-ghost use Rattle.pualirqiq.specs.Calls.{truth, Zeroes, isStateSized, cellsSize, isCellsSized, HandsBack};
+ghost use Rattle.pualirqiq.specs.Calls.{truth, Zeroes, isStateSized, cellsSize, isCellsSized, treeNumber, handed, HandsBack, Locates};
 
 // How long a stream state is.
 #[no_mangle]
@@ -75,6 +78,17 @@ pub extern "C" fn pq_check(tree: &[u8], cells: &[u8]) -> u8
     tree::check::check(tree, cells)
 }
 
+// The check of a tree alone: 1 or 0.
+#[no_mangle]
+pub extern "C" fn pq_check_tree(tree: &[u8]) -> u8
+    ensures { λ r. ⌜ r ≡ treeNumber (now (tree .entry)) ⌝ }
+{
+    if !tree::check::is_tree(tree) {
+        return UNSOUND;
+    }
+    DONE
+}
+
 // How many bytes the cells of a tree take; 0 where it is not sound.
 #[no_mangle]
 pub extern "C" fn pq_cells_size(tree: &[u8]) -> usize
@@ -103,27 +117,35 @@ pub extern "C" fn pq_begin_cells(tree: &[u8], cells: &mut [u8]) -> u8
 // A reading posted to a live property: 1, 14 or 0.
 #[no_mangle]
 pub extern "C" fn pq_post(tree: &[u8], cells: &mut [u8], place: usize, word: u32, ready: u8) -> u8
-    ensures { λ r. ⌜ Posts (postIn (now (tree .entry)) (now (cells .entry)) place word (truth ready)) r (now (cells .exit)) ⌝ }
+    ensures { λ r. ⌜ Updates (postIn (now (tree .entry)) (now (cells .entry)) place word (truth ready)) r (now (cells .exit)) ⌝ }
 {
     tree::cells::post(tree, cells, place, word, ready != 0)
 }
 
-// The word of a property's cell, and whether it is marked ready; 0 where there is none.
+// Saved cells lent again, every live property marked not ready: 1 or 0.
 #[no_mangle]
-pub extern "C" fn pq_word(cells: &[u8], place: usize) -> u32
-    ensures { λ r. ⌜ r ≡ cellIn (cellsIn (now (cells .entry))) place .word ⌝ }
+pub extern "C" fn pq_restore_cells(tree: &[u8], cells: &mut [u8]) -> u8
+    ensures { λ r. ⌜ Updates (restoreIn (now (tree .entry)) (now (cells .entry))) r (now (cells .exit)) ⌝ }
 {
-    tree::cells::read_word(cells, place)
+    tree::cells::restore(tree, cells)
 }
 
+// The number that the property at a place has to read: 1, 11 (no such property), 12 (no number) or 0.
 #[no_mangle]
-pub extern "C" fn pq_is_ready(cells: &[u8], place: usize) -> u8
-    ensures { λ r. ⌜ r ≡ markOf (cellIn (cellsIn (now (cells .entry))) place .ready) ⌝ }
+pub extern "C" fn pq_reading(tree: &[u8], cells: &[u8], place: usize, word: &mut u32) -> u8
+    ensures { λ r. ⌜ Reads (readIn (now (tree .entry)) (now (cells .entry)) place) (now (word .entry)) r (now (word .exit)) ⌝ }
 {
-    if tree::cells::is_ready(cells, place) {
-        return 1;
+    if tree::check::check(tree, cells) != DONE {
+        return UNSOUND;
     }
-    0
+    if tree::record::property_count(tree) <= place {
+        return BAD_PARAMETER;
+    }
+    let Reading::Word(n) = tree::cells::reading(tree, cells, place) else {
+        return NO_READING;
+    };
+    *word = n;
+    DONE
 }
 
 // Request data served: 1, 8, 4, 5, 9, 10, 11, 12, 13 or 0.
@@ -204,6 +226,56 @@ pub extern "C" fn pq_datagram(payload: &[u8], out: &mut [u8], len: &mut usize) -
     written.number
 }
 
+// A serial string's data, copied: 8, 2, 3, 4, 5, 6, 7 or 0.
+#[no_mangle]
+pub extern "C" fn pq_read_frame(address: u8, string: &[u8], out: &mut [u8], len: &mut usize) -> u8
+    ensures { λ r. ⌜ Emits (ifRoom roomData (length (now (out .entry))) (readFrame address (now (string .entry)))) (now (out .entry)) r (now (len .exit)) (now (out .exit)) ⌝ }
+{
+    let written = frame::read::read_frame(address, string, out);
+    *len = written.len;
+    written.number
+}
+
+// Where a datagram's data stands in it: 2, 4, 5 or 0.
+#[no_mangle]
+pub extern "C" fn pq_datagram_data(datagram: &[u8], offset: &mut usize, len: &mut usize) -> u8
+    ensures { λ r. ⌜ Locates (readDatagram (now (datagram .entry))) (now (datagram .entry)) r (now (offset .exit)) (now (len .exit)) ⌝ }
+{
+    let number = frame::udp::datagram_number(datagram);
+    if number != DONE {
+        *offset = 0;
+        *len = 0;
+        return number;
+    }
+    *offset = 4;
+    *len = datagram.len() - 4;
+    DONE
+}
+
+// What was read, handed back with 0 alone. Returns the number.
+fn hand_back(
+    asked: Asked,
+    op: &mut u8,
+    path: &mut [u8; 16],
+    path_len: &mut usize,
+    index: &mut u8,
+    value: &mut u32,
+) -> u8
+    ensures { λ r. ⌜ ((a : rule.Asked) → AskedIs a asked → HandsBack a (handed (now (op .entry)) (now (path .entry)) (now (path_len .entry)) (now (index .entry)) (now (value .entry))) r (handed (now (op .exit)) (now (path .exit)) (now (path_len .exit)) (now (index .exit)) (now (value .exit)))) ⌝ }
+{
+    let number = asked.number;
+    if number != DONE {
+        return number;
+    }
+    *op = asked.op;
+    let nodes = asked.path;
+    *path = nodes;
+    *path_len = asked.len;
+    *index = asked.index.0;
+    *value = asked.value;
+    DONE
+}
+
 // A serial string read as a request: 2, 3, 4, 5, 6, 7, 10, 11 or 0.
 #[no_mangle]
 pub extern "C" fn pq_read_serial(
@@ -211,20 +283,13 @@ pub extern "C" fn pq_read_serial(
     string: &[u8],
     op: &mut u8,
     path: &mut [u8; 16],
-    len: &mut usize,
+    path_len: &mut usize,
     index: &mut u8,
     value: &mut u32,
 ) -> u8
-    ensures { λ r. ⌜ HandsBack (readSerial address (now (string .entry))) r (now (op .exit)) (now (path .exit)) (now (len .exit)) (now (index .exit)) (now (value .exit)) ⌝ }
+    ensures { λ r. ⌜ HandsBack (readSerial address (now (string .entry))) (handed (now (op .entry)) (now (path .entry)) (now (path_len .entry)) (now (index .entry)) (now (value .entry))) r (handed (now (op .exit)) (now (path .exit)) (now (path_len .exit)) (now (index .exit)) (now (value .exit))) ⌝ }
 {
-    let asked = request::read::read_serial(address, string);
-    *op = asked.op;
-    let nodes = asked.path;
-    *path = nodes;
-    *len = asked.len;
-    *index = asked.index.0;
-    *value = asked.value;
-    asked.number
+    hand_back(request::read::read_serial(address, string), op, path, path_len, index, value)
 }
 
 // A datagram read as a request: 2, 4, 5, 10, 11 or 0.
@@ -233,20 +298,13 @@ pub extern "C" fn pq_read_udp(
     datagram: &[u8],
     op: &mut u8,
     path: &mut [u8; 16],
-    len: &mut usize,
+    path_len: &mut usize,
     index: &mut u8,
     value: &mut u32,
 ) -> u8
-    ensures { λ r. ⌜ HandsBack (readUdp (now (datagram .entry))) r (now (op .exit)) (now (path .exit)) (now (len .exit)) (now (index .exit)) (now (value .exit)) ⌝ }
+    ensures { λ r. ⌜ HandsBack (readUdp (now (datagram .entry))) (handed (now (op .entry)) (now (path .entry)) (now (path_len .entry)) (now (index .entry)) (now (value .entry))) r (handed (now (op .exit)) (now (path .exit)) (now (path_len .exit)) (now (index .exit)) (now (value .exit))) ⌝ }
 {
-    let asked = request::read::read_udp(datagram);
-    *op = asked.op;
-    let nodes = asked.path;
-    *path = nodes;
-    *len = asked.len;
-    *index = asked.index.0;
-    *value = asked.value;
-    asked.number
+    hand_back(request::read::read_udp(datagram), op, path, path_len, index, value)
 }
 
 // A request written out in a frame for an address: 8, 10, 11 or 0.

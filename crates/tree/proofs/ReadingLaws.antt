@@ -1,9 +1,9 @@
 -- A reading: the tests of row 12, and the word behind them.
 -- Assumes nothing.
 use Prim.Native.Nat.{ℕ}
-use mathlib.Core.Path.{_≡_, sym, ap, _∙_}
+use mathlib.Core.Path.{_≡_, refl, sym, ap, _∙_}
 use mathlib.Core.Bool.{Bool, true, false, cond, _&&_}
-use mathlib.Core.Option.{some}
+use mathlib.Core.Option.{Option, none, some}
 use Rattle.protocol.specs.Tree.{Property, Cell, canRead, isLive, readable, reading}
 use Rattle.protocol.proofs.RuleLaws.{reading-word, no-reading}
 use Rattle.tree.specs.Lent.{readingOf}
@@ -22,3 +22,12 @@ module _ (p : Property) (c : Cell) {t : Bool} (told : t ≡ readable p c) where
 
   pub reads-word : {n : ℕ} → t ≡ true → n ≡ c .word → Word n ≡ readingOf (reading p c)
   reads-word e f = ap (λ m. readingOf (some m)) f ∙ sym (ap readingOf (reading-word p c (sym told ∙ e)))
+
+-- What was handed back, taken as it was meant.
+pub word-read : (o : Option ℕ) {n : ℕ} → Word n ≡ readingOf o → o ≡ some n
+word-read none h = cc
+word-read (some m) h = cc
+
+pub none-read : (o : Option ℕ) → Nothing ≡ readingOf o → o ≡ none
+none-read none h = refl
+none-read (some m) h = cc
