@@ -261,7 +261,7 @@ fn hand_back(
     index: &mut u8,
     value: &mut u32,
 ) -> u8
-    ensures { λ r. ⌜ ((a : rule.Asked) → AskedIs a asked → HandsBack a (handed (now (op .entry)) (now (path .entry)) (now (path_len .entry)) (now (index .entry)) (now (value .entry))) r (handed (now (op .exit)) (now (path .exit)) (now (path_len .exit)) (now (index .exit)) (now (value .exit)))) ⌝ }
+    ensures { λ r. ⌜ ((a : rule.Asked) → AskedIs a asked → HandsBack a (handed (now (op .entry)) (now (path .entry)) (now («path_len» .entry)) (now (index .entry)) (now (value .entry))) r (handed (now (op .exit)) (now (path .exit)) (now («path_len» .exit)) (now (index .exit)) (now (value .exit)))) ⌝ }
 {
     let number = asked.number;
     if number != DONE {
@@ -287,9 +287,16 @@ pub extern "C" fn pq_read_serial(
     index: &mut u8,
     value: &mut u32,
 ) -> u8
-    ensures { λ r. ⌜ HandsBack (readSerial address (now (string .entry))) (handed (now (op .entry)) (now (path .entry)) (now (path_len .entry)) (now (index .entry)) (now (value .entry))) r (handed (now (op .exit)) (now (path .exit)) (now (path_len .exit)) (now (index .exit)) (now (value .exit))) ⌝ }
+    ensures { λ r. ⌜ HandsBack (readSerial address (now (string .entry))) (handed (now (op .entry)) (now (path .entry)) (now («path_len» .entry)) (now (index .entry)) (now (value .entry))) r (handed (now (op .exit)) (now (path .exit)) (now («path_len» .exit)) (now (index .exit)) (now (value .exit))) ⌝ }
 {
-    hand_back(request::read::read_serial(address, string), op, path, path_len, index, value)
+    hand_back(
+        request::read::read_serial(address, string),
+        op,
+        path,
+        path_len,
+        index,
+        value,
+    )
 }
 
 // A datagram read as a request: 2, 4, 5, 10, 11 or 0.
@@ -302,9 +309,16 @@ pub extern "C" fn pq_read_udp(
     index: &mut u8,
     value: &mut u32,
 ) -> u8
-    ensures { λ r. ⌜ HandsBack (readUdp (now (datagram .entry))) (handed (now (op .entry)) (now (path .entry)) (now (path_len .entry)) (now (index .entry)) (now (value .entry))) r (handed (now (op .exit)) (now (path .exit)) (now (path_len .exit)) (now (index .exit)) (now (value .exit))) ⌝ }
+    ensures { λ r. ⌜ HandsBack (readUdp (now (datagram .entry))) (handed (now (op .entry)) (now (path .entry)) (now («path_len» .entry)) (now (index .entry)) (now (value .entry))) r (handed (now (op .exit)) (now (path .exit)) (now («path_len» .exit)) (now (index .exit)) (now (value .exit))) ⌝ }
 {
-    hand_back(request::read::read_udp(datagram), op, path, path_len, index, value)
+    hand_back(
+        request::read::read_udp(datagram),
+        op,
+        path,
+        path_len,
+        index,
+        value,
+    )
 }
 
 // A request written out in a frame for an address: 8, 10, 11 or 0.
