@@ -15,12 +15,12 @@ use Rattle.protocol.specs.Numbers.{done, unsound, noRoom, disabled, badParamete
 use Rattle.protocol.specs.Bytes.{Bytes, every}
 use Rattle.protocol.specs.Buffer.{over}
 use Rattle.protocol.specs.Request.{Request, pathFits, indexFits, fits, readRequest}
-use Rattle.protocol.specs.Tree.{Property, Tree, Cell, isLive, propertyOf, nodeAt, propertyIn, cellIn, cellsSound, readable, reading, unready, restoredCell, restored, Posting, posted, post}
+use Rattle.protocol.specs.Tree.{Property, Tree, Cell, isLive, propertyOf, nodeAt, propertyIn, cellIn, cellsSound, readable, reading, unready, restored, Posting, posted, post}
 use Rattle.protocol.specs.Answer.{Answer, plain, stored, Outcome, saved, taken, readOnly, outOfRange, outcome, saveByte, writeNumber, writeReply, refusalCode, refuse, onRead, onWrite, onProperty, ifProperty, ifNode, perform, ifAsked, answer}
 use Rattle.protocol.proofs.TestLaws.{and-left, and-right, and-both, if-both, if-case}
 use Rattle.protocol.proofs.BufferLaws.{over-nil}
 use Rattle.protocol.proofs.AnswerLaws.{readRequest-fits, Finds, open-probe, Saves, Changes, none-changed, one-written, changes, write-accepted, write-holds, saved-done, others-stay, refusal-keeps}
-use Rattle.protocol.proofs.RuleLaws.{host-off, reading-some, not-readable, restored-cell}
+use Rattle.protocol.proofs.RuleLaws.{host-off, reading-some, not-readable, restored-live, restored-others}
 use Rattle.tree.specs.Seen.{seen, isTree}
 use Rattle.tree.specs.Cells.{cellsForm, cellsIn, hasCells}
 use Rattle.tree.specs.Lent.{isLent, Update, Updates, postIn, Read, Reads, readOf, readIn, orElse, restoreIn}
@@ -129,6 +129,21 @@ in-width t cs host bs h = go (changes t cs host bs)
         ap inWidth e
         ∙ every-set (λ c. ltb (c .word) wordEnd) cs place (stored (cellIn cs place) value) h (lt-ltb value wordEnd (sent-fits t bs place value s))
 
+-- A call that asks for the reading of a live probe that is not ready; the definition answers it 58.
+pub record AsksOpenProbe (k : Call) : Type 0 where
+  pub request : Request
+  pub place : ℕ
+  pub asks : readRequest (k .string .payload) ≡ record { number = done; request = request }
+  pub reads : request .op ≡ opRead
+  pub finds : Finds (seen (k .tree)) request place
+  pub live : isLive (propertyIn (seen (k .tree)) place) ≡ true
+  pub not-ready : cellIn (cellsIn (k .cells)) place .ready ≡ false
+
+asked-58 : (k : Call) → AsksOpenProbe k
+    → answer (seen (k .tree)) (cellsIn (k .cells)) true (k .string .payload) ≡ plain (cellsIn (k .cells)) noReading (NAK ∷ [])
+asked-58 k a =
+    open-probe (seen (k .tree)) (cellsIn (k .cells)) (k .string .payload) (a .request) (a .place) (a .asks) (a .reads) (a .finds) (a .live) (a .not-ready)
+
 -- How the refusals of rows 9 to 13 answer: with the code of the row, or with the reply of a write that is not saved.
 pub data Refusal (k : Call) (n : ℕ) (out out′ : List ℕ) : Type 0 where
   code : n ≤ noReading → out′ ≡ over (k .form (refusalCode n ∷ [])) out → Refusal k n out out′
@@ -211,33 +226,29 @@ module _ (k : Call) (early : Early (k .string)) {out cells′ out′ : List ℕ}
         )
 
     -- Demand 2: reading a live probe that is not ready never yields a number: nothing is written, or a code alone.
-    pub open-probe-silent : (r : Request) (place : ℕ) → readRequest (k .string .payload) ≡ record { number = done; request = r } → r .op ≡ opRead
-        → Finds (seen (k .tree)) r place → isLive (propertyIn (seen (k .tree)) place) ≡ true → cellIn (cellsIn (k .cells)) place .ready ≡ false
+    pub open-probe-silent : AsksOpenProbe k
         → (n ≡ done → ⊥) × ((out′ ≡ out) ⊎ ((out′ ≡ over (k .form (DISABLED ∷ [])) out) ⊎ (out′ ≡ over (k .form (NAK ∷ [])) out)))
-    open-probe-silent r place asks op f live unready = go (way k early)
+    open-probe-silent a = go (way k early)
       where
-        t : Tree
-        t = seen (k .tree)
-
         cs : List Cell
         cs = cellsIn (k .cells)
 
         bs : List ℕ
         bs = k .string .payload
 
-        host-case : (b : Bool) → (answer t cs b bs ≡ plain cs disabled (DISABLED ∷ [])) ⊎ (answer t cs b bs ≡ plain cs noReading (NAK ∷ []))
-        host-case true = inr (open-probe t cs bs r place asks op f live unready)
-        host-case false = inl (host-off t cs bs)
+        host-case : (b : Bool) → (answer (seen (k .tree)) cs b bs ≡ plain cs disabled (DISABLED ∷ [])) ⊎ (answer (seen (k .tree)) cs b bs ≡ plain cs noReading (NAK ∷ []))
+        host-case true = inr (asked-58 k a)
+        host-case false = inl (host-off (seen (k .tree)) cs bs)
 
         told : serving k ≡ inForm (k .form) (answerTo k) → (answerTo k ≡ plain cs disabled (DISABLED ∷ [])) ⊎ (answerTo k ≡ plain cs noReading (NAK ∷ []))
             → (n ≡ done → ⊥) × ((out′ ≡ out) ⊎ ((out′ ≡ over (k .form (DISABLED ∷ [])) out) ⊎ (out′ ≡ over (k .form (NAK ∷ [])) out)))
-        told e (inl a) = (
-          λ z. omega (arith, z, h .number ∙ ap (λ s. s .number) e ∙ ap (λ x. x .number) a),
-          inr (inl (h .bytes ∙ ap (λ s. over (s .written) out) e ∙ ap (λ x. over (k .form (x .reply)) out) a)),
+        told e (inl is) = (
+          λ z. omega (arith, z, h .number ∙ ap (λ s. s .number) e ∙ ap (λ x. x .number) is),
+          inr (inl (h .bytes ∙ ap (λ s. over (s .written) out) e ∙ ap (λ x. over (k .form (x .reply)) out) is)),
         )
-        told e (inr a) = (
-          λ z. omega (arith, z, h .number ∙ ap (λ s. s .number) e ∙ ap (λ x. x .number) a),
-          inr (inr (h .bytes ∙ ap (λ s. over (s .written) out) e ∙ ap (λ x. over (k .form (x .reply)) out) a)),
+        told e (inr is) = (
+          λ z. omega (arith, z, h .number ∙ ap (λ s. s .number) e ∙ ap (λ x. x .number) is),
+          inr (inr (h .bytes ∙ ap (λ s. over (s .written) out) e ∙ ap (λ x. over (k .form (x .reply)) out) is)),
         )
 
         go : Way k → (n ≡ done → ⊥) × ((out′ ≡ out) ⊎ ((out′ ≡ over (k .form (DISABLED ∷ [])) out) ⊎ (out′ ≡ over (k .form (NAK ∷ [])) out)))
@@ -247,6 +258,18 @@ module _ (k : Call) (early : Early (k .string)) {out cells′ out′ : List ℕ}
         )
         go (answered l d e) = told e (host-case (k .host))
 
+    -- With host functions on, and where nothing before it is refused, the answer is 58 exactly.
+    pub open-probe-58 : AsksOpenProbe k → Open k → k .string .number ≡ done → k .host ≡ true
+        → (n ≡ noReading) × (out′ ≡ over (k .form (NAK ∷ [])) out)
+    open-probe-58 a o good on =
+        let e : serving k ≡ inForm (k .form) (answerTo k) =
+        serve-by k true false true (o .lent) (le-ltb (k .room) (k .least) (o .roomy)) (eq-eqb (k .string .number) done good) in
+        let is : answerTo k ≡ plain (cellsIn (k .cells)) noReading (NAK ∷ []) =
+        ap (λ b. answer (seen (k .tree)) (cellsIn (k .cells)) b (k .string .payload)) on ∙ asked-58 k a in (
+          h .number ∙ ap (λ s. s .number) e ∙ ap (λ x. x .number) is,
+          h .bytes ∙ ap (λ s. over (s .written) out) e ∙ ap (λ x. over (k .form (x .reply)) out) is,
+        )
+
 -- All of it, of one call.
 pub record Kept (k : Call) (out : List ℕ) (n : ℕ) (cells′ out′ : List ℕ) : Type 0 where
   pub rows-1-to-8 : 0 < n → n < disabled → (cells′ ≡ k .cells) × (out′ ≡ out)
@@ -255,9 +278,10 @@ pub record Kept (k : Call) (out : List ℕ) (n : ℕ) (cells′ out′ : List �
       → cellIn (cellsIn cells′) place ≡ cellIn (cellsIn (k .cells)) place
   pub writes : Bytes (k .cells) → Open k → k .string .number ≡ done → k .host ≡ true → (place value : ℕ)
       → Saves (seen (k .tree)) (k .string .payload) place value → (n ≡ done) × (cellIn (cellsIn cells′) place .word ≡ value)
-  pub open-probes : (r : Request) (place : ℕ) → readRequest (k .string .payload) ≡ record { number = done; request = r } → r .op ≡ opRead
-      → Finds (seen (k .tree)) r place → isLive (propertyIn (seen (k .tree)) place) ≡ true → cellIn (cellsIn (k .cells)) place .ready ≡ false
+  pub open-probes : AsksOpenProbe k
       → (n ≡ done → ⊥) × ((out′ ≡ out) ⊎ ((out′ ≡ over (k .form (DISABLED ∷ [])) out) ⊎ (out′ ≡ over (k .form (NAK ∷ [])) out)))
+  pub open-probes-58 : AsksOpenProbe k → Open k → k .string .number ≡ done → k .host ≡ true
+      → (n ≡ noReading) × (out′ ≡ over (k .form (NAK ∷ [])) out)
 
 kept : (k : Call) → Early (k .string) → {out cells′ out′ : List ℕ} {n size action : ℕ} → Serves (serving k) out n size action cells′ out′
     → Kept k out n cells′ out′
@@ -268,6 +292,7 @@ kept k early h =
       others = others-kept k early h;
       writes = write-kept k early h;
       open-probes = open-probe-silent k early h;
+      open-probes-58 = open-probe-58 k early h;
     }
 
 -- By each road: what `serve_data`, `serve_serial` and `serve_udp` promise keeps demands 1 and 2.
@@ -355,7 +380,7 @@ reading-kept tree cells place old {n} {word} h = go (isLent tree cells) (ltb pla
 pub record RestoreKept (tree cells : List ℕ) (n : ℕ) (cells′ : List ℕ) : Type 0 where
   pub refusals : (n ≡ done → ⊥) → cells′ ≡ cells
   pub live : Bytes cells → n ≡ done → (place : ℕ) → isLive (propertyIn (seen tree) place) ≡ true
-      → cellIn (cellsIn cells′) place ≡ unready (cellIn (cellsIn cells) place)
+      → cellIn (cellsIn cells′) place ≡ record { word = cellIn (cellsIn cells) place .word; ready = false }
   pub others : Bytes cells → n ≡ done → (place : ℕ) → isLive (propertyIn (seen tree) place) ≡ false
       → cellIn (cellsIn cells′) place ≡ cellIn (cellsIn cells) place
 
@@ -380,21 +405,17 @@ restore-kept tree cells {n} {cells′} h = go (isLent tree cells) (h .number) (h
     told : Bool → Update
     told t = cond t (record { number = done; bytes = cellsForm after }) (record { number = unsound; bytes = cells })
 
-    each : Bytes cells → cells′ ≡ cellsForm after → (place : ℕ)
-        → cellIn (cellsIn cells′) place ≡ restoredCell (propertyIn (seen tree) place) (cellIn (cellsIn cells) place)
+    each : Bytes cells → cells′ ≡ cellsForm after → (place : ℕ) → cellIn (cellsIn cells′) place ≡ cellIn after place
     each all e place =
         ap (λ l. cellIn (cellsIn l) place) e
         ∙ ap (λ cs. cellIn cs place) (cells-in-form after (restored-width (seen tree .properties) (cellsIn cells) (cells-fit cells all)))
-        ∙ restored-cell (seen tree .properties) (cellsIn cells) place
 
     go : (t : Bool) → n ≡ told t .number → cells′ ≡ told t .bytes → RestoreKept tree cells n cells′
     go true e f =
         record {
           refusals = λ u. absurd (u e);
-          live = λ all d place l.
-              each all f place ∙ ap (λ t. cond t (unready (cellIn (cellsIn cells) place)) (cellIn (cellsIn cells) place)) l;
-          others = λ all d place l.
-              each all f place ∙ ap (λ t. cond t (unready (cellIn (cellsIn cells) place)) (cellIn (cellsIn cells) place)) l;
+          live = λ all d place l. each all f place ∙ restored-live (seen tree .properties) (cellsIn cells) place l;
+          others = λ all d place l. each all f place ∙ restored-others (seen tree .properties) (cellsIn cells) place l;
         }
     go false e f =
         record {

@@ -17,7 +17,7 @@ use mir.Val.{toZ}
 use Rattle.protocol.specs.Numbers.{done, disabled, notLive, DISABLED, standard, enumeration, wordEnd}
 use Rattle.protocol.specs.Bytes.{sum, ordered, atMost, every, text, texts}
 use Rattle.protocol.specs.Frame.{checksum}
-use Rattle.protocol.specs.Tree.{Property, Tree, Cell, canRead, isSigned, isLive, propertyIn, cellIn, readable, reading, restoredCell, restored, posted, post, sound, nodesSound, propertiesSound, propertySound, parentsSound, parentsFrom, depthsSound, depthsAfter, liveSound, kindSound, standardSound, enumerationSound, isName, optionsSound, cellsSound}
+use Rattle.protocol.specs.Tree.{Property, Tree, Cell, canRead, isSigned, isLive, propertyIn, cellIn, readable, reading, unready, restoredCell, restored, posted, post, sound, nodesSound, propertiesSound, propertySound, parentsSound, parentsFrom, depthsSound, depthsAfter, liveSound, kindSound, standardSound, enumerationSound, isName, optionsSound, cellsSound}
 use Rattle.protocol.specs.Answer.{inRange, plain, refusalCode, answer}
 use Rattle.protocol.specs.Bench.{benchTree, benchCells}
 use Rattle.protocol.proofs.TestLaws.{leb-same}
@@ -159,7 +159,7 @@ no-cell p = go (isLive p)
     go true = refl
     go false = refl
 
-pub restored-cell : (ps : List Property) (cs : List Cell) (k : ℕ) → cellIn (restored ps cs) k ≡ restoredCell (propertyAt ps k) (cellIn cs k)
+restored-cell : (ps : List Property) (cs : List Cell) (k : ℕ) → cellIn (restored ps cs) k ≡ restoredCell (propertyAt ps k) (cellIn cs k)
 unfolding restored
 restored-cell [] cs zero = refl
 restored-cell [] cs (suc k) = refl
@@ -167,6 +167,13 @@ restored-cell (p ∷ ps) [] zero = no-cell p
 restored-cell (p ∷ ps) [] (suc k) = no-cell (propertyAt ps k)
 restored-cell (p ∷ ps) (c ∷ cs) zero = refl
 restored-cell (p ∷ ps) (c ∷ cs) (suc k) = restored-cell ps cs k
+
+module _ (ps : List Property) (cs : List Cell) (k : ℕ) where
+  pub restored-live : isLive (propertyAt ps k) ≡ true → cellIn (restored ps cs) k ≡ record { word = cellIn cs k .word; ready = false }
+  restored-live e = restored-cell ps cs k ∙ ap (λ t. cond t (unready (cellIn cs k)) (cellIn cs k)) e
+
+  pub restored-others : isLive (propertyAt ps k) ≡ false → cellIn (restored ps cs) k ≡ cellIn cs k
+  restored-others e = restored-cell ps cs k ∙ ap (λ t. cond t (unready (cellIn cs k)) (cellIn cs k)) e
 
 pub restored-length : (ps : List Property) (cs : List Cell) → length (restored ps cs) ≡ length cs
 unfolding restored

@@ -83,10 +83,10 @@ pub extern "C" fn pq_check(tree: &[u8], cells: &[u8]) -> u8
 pub extern "C" fn pq_check_tree(tree: &[u8]) -> u8
     ensures { λ r. ⌜ r ≡ treeNumber (now (tree .entry)) ⌝ }
 {
-    if !tree::check::is_tree(tree) {
-        return UNSOUND;
+    if tree::check::is_tree(tree) {
+        return DONE;
     }
-    DONE
+    UNSOUND
 }
 
 // How many bytes the cells of a tree take; 0 where it is not sound.
@@ -181,10 +181,10 @@ pub extern "C" fn pq_serve_serial(
 ) -> u8
     ensures { λ r. ⌜ Serves (serveSerial address (length (now (out .entry))) (now (string .entry)) (truth host) (now (tree .entry)) (now (cells .entry))) (now (out .entry)) r (now (len .exit)) (now (action .exit)) (now (cells .exit)) (now (out .exit)) ⌝ }
 {
-    let served = answer::serve::serve_serial(tree, cells, host != 0, address, string, out);
-    *len = served.len;
-    *action = served.action;
-    served.number
+    let serial = answer::serve::serve_serial(tree, cells, host != 0, address, string, out);
+    *len = serial.len;
+    *action = serial.action;
+    serial.number
 }
 
 // A datagram served: 1, 8, 2, 4, 5, 9, 10, 11, 12, 13 or 0.
@@ -200,10 +200,10 @@ pub extern "C" fn pq_serve_udp(
 ) -> u8
     ensures { λ r. ⌜ Serves (serveUdp (length (now (out .entry))) (now (datagram .entry)) (truth host) (now (tree .entry)) (now (cells .entry))) (now (out .entry)) r (now (len .exit)) (now (action .exit)) (now (cells .exit)) (now (out .exit)) ⌝ }
 {
-    let served = answer::serve::serve_udp(tree, cells, host != 0, datagram, out);
-    *len = served.len;
-    *action = served.action;
-    served.number
+    let udp = answer::serve::serve_udp(tree, cells, host != 0, datagram, out);
+    *len = udp.len;
+    *action = udp.action;
+    udp.number
 }
 
 // Data framed for an address: 8, 4, 5 or 0.
@@ -211,9 +211,9 @@ pub extern "C" fn pq_serve_udp(
 pub extern "C" fn pq_frame(address: u8, payload: &[u8], out: &mut [u8], len: &mut usize) -> u8
     ensures { λ r. ⌜ Emits (ifRoom roomSerial (length (now (out .entry))) (writeFrame address (now (payload .entry)))) (now (out .entry)) r (now (len .exit)) (now (out .exit)) ⌝ }
 {
-    let written = frame::write::write_frame(address, payload, out);
-    *len = written.len;
-    written.number
+    let framed = frame::write::write_frame(address, payload, out);
+    *len = framed.len;
+    framed.number
 }
 
 // Data in a datagram: 8, 4, 5 or 0.
@@ -221,9 +221,9 @@ pub extern "C" fn pq_frame(address: u8, payload: &[u8], out: &mut [u8], len: &mu
 pub extern "C" fn pq_datagram(payload: &[u8], out: &mut [u8], len: &mut usize) -> u8
     ensures { λ r. ⌜ Emits (ifRoom roomUdp (length (now (out .entry))) (writeDatagram (now (payload .entry)))) (now (out .entry)) r (now (len .exit)) (now (out .exit)) ⌝ }
 {
-    let written = frame::udp::write_datagram(payload, out);
-    *len = written.len;
-    written.number
+    let packet = frame::udp::write_datagram(payload, out);
+    *len = packet.len;
+    packet.number
 }
 
 // A serial string's data, copied: 8, 2, 3, 4, 5, 6, 7 or 0.
@@ -231,9 +231,9 @@ pub extern "C" fn pq_datagram(payload: &[u8], out: &mut [u8], len: &mut usize) -
 pub extern "C" fn pq_read_frame(address: u8, string: &[u8], out: &mut [u8], len: &mut usize) -> u8
     ensures { λ r. ⌜ Emits (ifRoom roomData (length (now (out .entry))) (readFrame address (now (string .entry)))) (now (out .entry)) r (now (len .exit)) (now (out .exit)) ⌝ }
 {
-    let written = frame::read::read_frame(address, string, out);
-    *len = written.len;
-    written.number
+    let copied = frame::read::read_frame(address, string, out);
+    *len = copied.len;
+    copied.number
 }
 
 // Where a datagram's data stands in it: 2, 4, 5 or 0.
@@ -334,9 +334,9 @@ pub extern "C" fn pq_write_serial(
 ) -> u8
     ensures { λ r. ⌜ Emits (writeRequest roomSerial (length (now (out .entry))) (serialForm address) (requestOf op (now (path .entry)) index value)) (now (out .entry)) r (now (len .exit)) (now (out .exit)) ⌝ }
 {
-    let written = request::write::write_serial(address, op, path, PropertyIndex(index), value, out);
-    *len = written.len;
-    written.number
+    let string = request::write::write_serial(address, op, path, PropertyIndex(index), value, out);
+    *len = string.len;
+    string.number
 }
 
 // A request written out in a datagram: 8, 10, 11 or 0.
@@ -351,7 +351,7 @@ pub extern "C" fn pq_write_udp(
 ) -> u8
     ensures { λ r. ⌜ Emits (writeRequest roomUdp (length (now (out .entry))) udpForm (requestOf op (now (path .entry)) index value)) (now (out .entry)) r (now (len .exit)) (now (out .exit)) ⌝ }
 {
-    let written = request::write::write_udp(op, path, PropertyIndex(index), value, out);
-    *len = written.len;
-    written.number
+    let datagram = request::write::write_udp(op, path, PropertyIndex(index), value, out);
+    *len = datagram.len;
+    datagram.number
 }
