@@ -1,6 +1,7 @@
-"""Prints the code sizes of the static library's exports: a function's own bytes, and with all it calls.
+"""Prints the code sizes of the static library's exports: a function's own bytes, and with all it calls; and of the whole, with
+the constants that the compiler makes, as jump tables.
 
-Usage: sizes.py LIBRARY. Reads what nm and objdump print.
+Usage: sizes.py LIBRARY. Reads what nm, objdump and size print.
 """
 import re
 import subprocess
@@ -43,7 +44,9 @@ def main():
     print("| Export | Own bytes | With all it calls |\n|---|---|---|")
     for name in sorted(exports):
         print(f"| `{name}` | {size[name]} | {sum(size[n] for n in reached(name, set()))} |")
-    print(f"| all | | {sum(size.values())} |")
+    whole = sum(int(line.split()[0]) for line in output("size", library).splitlines()[1:])
+    print(f"| constants | | {whole - sum(size.values())} |")
+    print(f"| all | | {whole} |")
 
 
 main()
