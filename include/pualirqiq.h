@@ -1,21 +1,47 @@
 /* The C interface of the box: PENKO TP and PDI over serial and UDP, from a tree and cells that the caller lends.
+ * The static library is built for x86-64. Of the C library it needs memcpy and memset.
  *
- * Every call returns, for all bytes, and trusts no earlier check: no argument needs to be tested first. A slice is a pointer
- * and a length; with length 0 the pointer is not read, and must not be NULL all the same. Buffers of one call must not overlap,
- * and a number that is handed back must not lie in one. No call keeps a pointer, allocates, or touches anything but what it is
- * lent. Of the C library the code needs memcpy and memset.
- *
- * tree    in flash, read only; its form is in docs/FORMATS.md. Every call that gets a tree checks it.
- * cells   one cell of PQ_CELL_SIZE bytes for each property, in the order of the tree. pq_begin_cells makes them; after that
- *         only pq_post and accepted writes change them. They may be saved and lent again: they are checked.
- * state   PQ_STATE_SIZE bytes for each stream; pq_begin_stream makes it, and only pq_feed changes it.
+ * tree    read only, may lie in flash; its form is in docs/FORMATS.md. Every call that gets a tree checks it.
+ * cells   one cell of PQ_CELL_SIZE bytes for each property, in the order of the tree. pq_begin_cells makes them; saved ones go
+ *         through pq_restore_cells at start. From then on only pq_post and accepted writes change them, and pq_reading is the
+ *         way to a word.
+ * state   PQ_STATE_SIZE bytes for each stream. pq_begin_stream makes it, and only pq_feed changes it.
  * place   a property is named by its place in the tree's list of properties, from 0 on.
+ *
+ * What holds of every call:
+ *
+ * - It returns, for all bytes, and trusts no earlier check: nothing needs to be tested first. It keeps no pointer, allocates
+ *   nothing and touches nothing but what it is lent. Outputs need not be cleared; bytes behind what is put there stay.
+ * - Slices. A slice is a pointer and its length in bytes (x, x_len). With length 0 the pointer is not looked at and may be
+ *   NULL. No other pointer may be NULL: each number handed back has a place, and path has its 16 bytes.
+ * - Overlap. What a call writes (cells, state, out, the numbers handed back) must not overlap anything else that it is lent. So
+ *   a request is not answered in place: out is never the buffer of the request, string, datagram or bytes. And no number handed
+ *   back lies in a buffer, or where another one lies.
+ * - Interleaving. Until a call returns, nothing else may write what it is lent or read what it writes. So an interrupt must not
+ *   feed while the main loop is in a call on the same state, nor post while it is in one on the same cells: mask it, or queue
+ *   bytes and readings and call from one context, as example/main.c does. Calls on different buffers may run at once, over one
+ *   tree too: the library has no data of its own.
+ * - Refusals. Every number but 0 and 255 is one. It leaves cells, state and outputs as they were; lengths, offsets and counts
+ *   that are handed back are 0, and the action is PQ_NO_ACTION; what is read out of something (a word, the fields of a request)
+ *   is left as it was. Two exceptions: the serving calls write a reply with 9 to 13, and pq_feed takes the bytes of a frame that
+ *   it refuses.
+ * - Numbers. Those that a call may return stand with it, in the order in which they are tested.
  */
 #ifndef PUALIRQIQ_H
 #define PUALIRQIQ_H
 
 #include <stddef.h>
 #include <stdint.h>
+
+/* Grows when the interface changes. 1: with pq_word and pq_is_ready. 2: pq_reading and pq_restore_cells in their place. */
+#define PQ_VERSION 2
+
+/* In C, an array of at least so many elements: compilers warn of a shorter one. */
+#if defined(__STDC_VERSION__) && __STDC_VERSION__ >= 199901L && !defined(__cplusplus)
+#define PQ_STATIC static
+#else
+#define PQ_STATIC
+#endif
 
 #ifdef __cplusplus
 extern "C" {
@@ -31,24 +57,24 @@ enum {
     PQ_ROOM_SERIAL = 520  /* .. for a serial string */
 };
 
-/* Numbers returned (document 01). Numbers 1 to 8 and 14 write nothing and change no cell; 9 to 13 change no cell. */
+/* Numbers returned (document 01). */
 enum {
     PQ_DONE = 0,
-    PQ_UNSOUND = 1,          /* tree, cells or state are not sound, or do not fit each other */
-    PQ_NO_PREAMBLE = 2,
-    PQ_BAD_PAIR = 3,
-    PQ_TOO_SHORT = 4,
-    PQ_TOO_LONG = 5,
+    PQ_UNSOUND = 1,          /* tree, cells or state have no sound form, or do not fit each other */
+    PQ_NO_PREAMBLE = 2,      /* a string that does not begin with 10 02, a datagram that does not with four zeros */
+    PQ_BAD_PAIR = 3,         /* a 10h with a wrong byte behind it; a string that does not end with its first 10 03 */
+    PQ_TOO_SHORT = 4,        /* no data */
+    PQ_TOO_LONG = 5,         /* more than 256 bytes of data */
     PQ_BAD_CHECKSUM = 6,
     PQ_OTHER_ADDRESS = 7,
-    PQ_NO_ROOM = 8,          /* the output is shorter than its least room */
-    PQ_DISABLED = 9,         /* host functions are off; the reply is 57 */
-    PQ_UNKNOWN_COMMAND = 10, /* the reply is 59 */
-    PQ_BAD_PARAMETER = 11,   /* the reply is 54 */
-    PQ_NO_READING = 12,      /* no read attribute, or live and not ready; the reply is 58 */
-    PQ_NOT_SAVED = 13,       /* the reply to the write, with save 00 */
-    PQ_NOT_LIVE = 14,        /* a posting to a cell that does not exist or is not live */
-    PQ_NO_FRAME = 255        /* pq_feed: no frame ended, all bytes were taken; no refusal */
+    PQ_NO_ROOM = 8,          /* the output is shorter than its least room, whatever would be put there */
+    PQ_DISABLED = 9,         /* host functions are off */
+    PQ_UNKNOWN_COMMAND = 10, /* not B4, or an op above 5 */
+    PQ_BAD_PARAMETER = 11,   /* not what the op asks for; no such node or property */
+    PQ_NO_READING = 12,      /* no read attribute, or live and not ready */
+    PQ_NOT_SAVED = 13,       /* a write without write attribute, or out of range */
+    PQ_NOT_LIVE = 14,        /* a posting to a property that does not exist or is not live */
+    PQ_NO_FRAME = 255        /* pq_feed: all bytes were taken and no frame ended; no refusal */
 };
 
 /* In *action: no action is to be taken. */
@@ -59,73 +85,147 @@ enum { PQ_NO_ACTION = 255 };
 /* How long a state is: PQ_STATE_SIZE. */
 size_t pq_state_size(void);
 
-/* The state in which a stream begins. 1 where its length is not PQ_STATE_SIZE (nothing is changed), or 0. */
+/* The state in which a stream begins.
+ * 1: state_len is not PQ_STATE_SIZE. 0. */
 uint8_t pq_begin_stream(uint8_t *state, size_t state_len);
 
-/* Feeds bytes for the box's address, of any number, one or more or none, up to the one that closes or drops a frame.
- * *taken is how many were taken: feed the rest again. With 0 a good frame has ended, its data of *len bytes stands at the front
- * of out; 3, 4, 5, 6, 7: a frame was dropped or judged bad; 255: no frame ended. Then *len is 0 and out is as it was.
- * 1 (the state has no form) and 8 (out is shorter than PQ_ROOM_DATA) take no byte. Only bytes of a good frame's data are written. */
-uint8_t pq_feed(uint8_t *state, size_t state_len, uint8_t address, const uint8_t *bytes, size_t bytes_len, uint8_t *out, size_t out_len,
-    size_t *taken, size_t *len);
+/* Feeds bytes of the line, any number of them or none, to the reader for the box's address. It stops behind the byte that
+ * closes or drops a frame: feed the rest again, from bytes + *taken on.
+ *
+ *   number                                    *taken             *len         out             state
+ *   1        the state is not sound           0                  0            as it was       as it was
+ *   8        out_len is under PQ_ROOM_DATA    0                  0            as it was       as it was
+ *   0        a good frame was closed          up to its end      its data's   its data        goes on
+ *   3, 5     a frame was dropped              up to that byte    0            as it was       goes on
+ *   4, 6, 7  a closed frame is not good       up to its end      0            as it was       goes on
+ *   255      no frame ended                   bytes_len          0            as it was       goes on
+ *
+ * Data stands at the front of out. A loop over bytes ends at 1 and 8, which take none. out must not be the buffer of the bytes,
+ * nor lie in the state. */
+uint8_t pq_feed(uint8_t *state, size_t state_len, uint8_t address, const uint8_t *bytes, size_t bytes_len,
+    uint8_t *out, size_t out_len, size_t *taken, size_t *len);
 
 /* ---- Tree and cells ---- */
 
-/* 1 where the bytes stand for no sound tree, or the cells do not fit it or have no form; else 0. */
+/* The check of a tree alone.
+ * 1: the bytes stand for no sound tree. 0. */
+uint8_t pq_check_tree(const uint8_t *tree, size_t tree_len);
+
+/* The check of a tree and its cells. Every call that gets both begins with it, but for pq_begin_cells.
+ * 1: the bytes stand for no sound tree, there is not one cell for each property, or a mark is neither 0 nor 1. 0. */
 uint8_t pq_check(const uint8_t *tree, size_t tree_len, const uint8_t *cells, size_t cells_len);
 
-/* How many bytes the cells of this tree take; 0 where the tree is not sound. */
+/* How many bytes the cells of a tree take. 0 where it is not sound, and where it has no properties. */
 size_t pq_cells_size(const uint8_t *tree, size_t tree_len);
 
-/* Cells that begin: every word 0, none ready. 1 where the tree is not sound or the length is not pq_cells_size (nothing is
- * changed), or 0. */
+/* Cells that begin: no probe ready, and every word 0, also where that is outside a setting's range.
+ * 1: the tree is not sound, or cells_len is not its pq_cells_size. 0. */
 uint8_t pq_begin_cells(const uint8_t *tree, size_t tree_len, uint8_t *cells, size_t cells_len);
 
-/* Posts a reading to the live property at a place: 1, 14 or 0. With ready 0 the probe is marked not ready and its word stays;
- * with any other, the word becomes this one and the probe is ready. No other cell changes. */
-uint8_t pq_post(const uint8_t *tree, size_t tree_len, uint8_t *cells, size_t cells_len, size_t place, uint32_t word, uint8_t ready);
+/* Cells that were saved, made fit for use after a start: every live property is marked not ready until it is posted again, so
+ * that no reading of before is answered as one of now. All else stays, words and settings.
+ * 1: as pq_check; begin with pq_begin_cells then. 0. */
+uint8_t pq_restore_cells(const uint8_t *tree, size_t tree_len, uint8_t *cells, size_t cells_len);
 
-/* The word of the cell at a place, and whether it is marked ready (1 or 0): for the firmware's own use of its settings. 0 where
- * there is no such whole cell. These two look at nothing else: a mark other than 1 is not ready, whatever else lies in the
- * buffer. The mark counts for live properties alone. */
-uint32_t pq_word(const uint8_t *cells, size_t cells_len, size_t place);
-uint8_t pq_is_ready(const uint8_t *cells, size_t cells_len, size_t place);
+/* Posts a reading to the live property at a place. With ready 0 it is marked not ready and its word stays; with any other ready
+ * its word becomes this one and it is ready. Nothing ages: it stays ready until ready 0 is posted. No other cell changes.
+ * 1: as pq_check. 14: no property at that place, or one that is not live. 0. */
+uint8_t pq_post(const uint8_t *tree, size_t tree_len, uint8_t *cells, size_t cells_len, size_t place, uint32_t word,
+    uint8_t ready);
+
+/* The word of the property at a place, for the firmware's own use: the one that a host would read.
+ * 1: as pq_check. 11: no property at that place. 12: it has no read attribute, or is live and not ready. 0: *word is its word.
+ * With any other number *word is left as it was. */
+uint8_t pq_reading(const uint8_t *tree, size_t tree_len, const uint8_t *cells, size_t cells_len, size_t place,
+    uint32_t *word);
 
 /* ---- Requests answered ----
- * host: 0 where host functions are off. The reply, *len bytes, stands at the front of out; the rest of out stays as it was.
- * *action is the place of the property whose action is to be taken, or PQ_NO_ACTION. An accepted write is in the cells when the
- * call returns. Order of the numbers: 1, 8, then those of the string (2 to 7), then 9, 10, 11, 12 or 13. */
+ * host is 0 where host functions are off, and any other number where they are on. *len is the length of the reply at the front
+ * of out: a reply is to be sent exactly where it is not 0.
+ *
+ *   1 to 8           *len is 0; nothing is written
+ *   9, 10, 11, 12    the reply is the one byte 57, 59, 54, 58 (hex); no cell is changed
+ *   13               the reply to a write, with save 00; no cell is changed
+ *   0                the reply; an accepted write is in the cells
+ *
+ * *action is PQ_NO_ACTION, but for 0 with a write to an action: then it is that property's place, and no cell is changed. */
 
-/* Request data, as pq_feed hands it up. The reply is data too: frame it by pq_frame. out: PQ_ROOM_DATA or more. */
-uint8_t pq_serve_data(const uint8_t *tree, size_t tree_len, uint8_t *cells, size_t cells_len, uint8_t host, const uint8_t *request,
-    size_t request_len, uint8_t *out, size_t out_len, size_t *len, uint8_t *action);
+/* Request data, as pq_feed hands it up. The reply is data too, for pq_frame. out must not be the request's buffer.
+ * 1: as pq_check. 8: out_len is under PQ_ROOM_DATA. 4: no data. 5: more than 256 bytes. 9, 10, 11, 12, 13. 0. */
+uint8_t pq_serve_data(const uint8_t *tree, size_t tree_len, uint8_t *cells, size_t cells_len, uint8_t host,
+    const uint8_t *request, size_t request_len, uint8_t *out, size_t out_len, size_t *len, uint8_t *action);
 
-/* A whole serial string; the reply is a frame that carries the box's address. out: PQ_ROOM_SERIAL or more. */
+/* A whole serial string for the box's address, which the reply, a frame, carries too. out must not be the string's buffer.
+ * 1: as pq_check. 8: out_len is under PQ_ROOM_SERIAL. 2, 3, 4, 5, 6, 7. 9, 10, 11, 12, 13. 0. */
 uint8_t pq_serve_serial(const uint8_t *tree, size_t tree_len, uint8_t *cells, size_t cells_len, uint8_t host, uint8_t address,
     const uint8_t *string, size_t string_len, uint8_t *out, size_t out_len, size_t *len, uint8_t *action);
 
-/* A datagram; the reply is a datagram. out: PQ_ROOM_UDP or more. */
-uint8_t pq_serve_udp(const uint8_t *tree, size_t tree_len, uint8_t *cells, size_t cells_len, uint8_t host, const uint8_t *datagram,
-    size_t datagram_len, uint8_t *out, size_t out_len, size_t *len, uint8_t *action);
+/* A datagram; the reply is a datagram. out must not be the datagram's buffer.
+ * 1: as pq_check. 8: out_len is under PQ_ROOM_UDP. 2, 4, 5. 9, 10, 11, 12, 13. 0. */
+uint8_t pq_serve_udp(const uint8_t *tree, size_t tree_len, uint8_t *cells, size_t cells_len, uint8_t host,
+    const uint8_t *datagram, size_t datagram_len, uint8_t *out, size_t out_len, size_t *len, uint8_t *action);
 
-/* Data of 1 to 256 bytes in a frame for an address, and in a datagram: 8, 4, 5 or 0. */
+/* ---- Frames and datagrams ----
+ * With 0, *len is the length of what stands at the front of out; else it is 0. */
+
+/* Data in a frame for an address. out must not be the data's buffer.
+ * 8: out_len is under PQ_ROOM_SERIAL. 4: no data. 5: more than 256 bytes. 0. */
 uint8_t pq_frame(uint8_t address, const uint8_t *data, size_t data_len, uint8_t *out, size_t out_len, size_t *len);
+
+/* Data in a datagram. out must not be the data's buffer, also where the data stands four bytes on.
+ * 8: out_len is under PQ_ROOM_UDP. 4: no data. 5: more than 256 bytes. 0. */
 uint8_t pq_datagram(const uint8_t *data, size_t data_len, uint8_t *out, size_t out_len, size_t *len);
 
-/* ---- Requests read and written, for hosts and tests ----
- * A request is op 0 to 5, a path of *len node numbers, an index and a value; what its op does not ask for is empty or 0. With any
- * number but 0 reading hands back zeros. path has PQ_PATH_SIZE bytes, those behind the path being 0. */
-uint8_t pq_read_serial(uint8_t address, const uint8_t *string, size_t string_len, uint8_t *op, uint8_t path[16], size_t *len, uint8_t *index,
-    uint32_t *value);
-uint8_t pq_read_udp(const uint8_t *datagram, size_t datagram_len, uint8_t *op, uint8_t path[16], size_t *len, uint8_t *index, uint32_t *value);
+/* The data of a whole serial string for an address, copied. out must not be the string's buffer.
+ * 8: out_len is under PQ_ROOM_DATA. 2, 3, 4, 5, 6, 7. 0. */
+uint8_t pq_read_frame(uint8_t address, const uint8_t *string, size_t string_len, uint8_t *out, size_t out_len, size_t *len);
 
-/* 8, 10 (an op above 5), 11 (what the op does not allow) or 0. */
-uint8_t pq_write_serial(uint8_t address, uint8_t op, const uint8_t *path, size_t path_len, uint8_t index, uint32_t value, uint8_t *out,
+/* Where a datagram's data stands in the datagram itself; nothing is copied.
+ * 2, 4, 5: *offset and *len are 0. 0: *offset is 4 and *len the data's length. */
+uint8_t pq_datagram_data(const uint8_t *datagram, size_t datagram_len, size_t *offset, size_t *len);
+
+/* ---- Requests read and written, for hosts and tests ----
+ * A request is an op of 0 to 5, a path of 1 to 16 node numbers, an index and a value; what its op does not ask for is empty or
+ * 0. No tree is looked at, and 10 and 11 write no reply here. */
+
+/* A whole serial string for an address, read as a request. path has PQ_PATH_SIZE bytes.
+ * 2, 3, 4, 5, 6, 7, 10, 11: *op, path, *path_len, *index and *value are left as they were. 0: they are the request's; the bytes
+ * of path from *path_len on are 0. */
+uint8_t pq_read_serial(uint8_t address, const uint8_t *string, size_t string_len, uint8_t *op,
+    uint8_t path[PQ_STATIC PQ_PATH_SIZE], size_t *path_len, uint8_t *index, uint32_t *value);
+
+/* The same of a datagram: 2, 4, 5, 10, 11. 0. */
+uint8_t pq_read_udp(const uint8_t *datagram, size_t datagram_len, uint8_t *op, uint8_t path[PQ_STATIC PQ_PATH_SIZE],
+    size_t *path_len, uint8_t *index, uint32_t *value);
+
+/* A request written out in a frame for an address.
+ * 8: out_len is under PQ_ROOM_SERIAL. 10: an op above 5. 11: a part that the op asks for has not its form, or it does not ask
+ * for it. *len is 0 then. 0: *len is the length of the string at the front of out. */
+uint8_t pq_write_serial(uint8_t address, uint8_t op, const uint8_t *path, size_t path_len, uint8_t index, uint32_t value,
+    uint8_t *out, size_t out_len, size_t *len);
+
+/* The same in a datagram, with 8 where out_len is under PQ_ROOM_UDP. */
+uint8_t pq_write_udp(uint8_t op, const uint8_t *path, size_t path_len, uint8_t index, uint32_t value, uint8_t *out,
     size_t out_len, size_t *len);
-uint8_t pq_write_udp(uint8_t op, const uint8_t *path, size_t path_len, uint8_t index, uint32_t value, uint8_t *out, size_t out_len, size_t *len);
+
+/* ---- Stack ----
+ * The most that a call needs, in bytes, on x86-64 (python3 tests/stack.py target/staticlib/libpualirqiq.a): with its return
+ * address, and without its arguments, which are the caller's, and what memcpy and memset take themselves.
+ *
+ *   pq_begin_cells     248      pq_frame            16      pq_serve_serial    712
+ *   pq_begin_stream     24      pq_is_ready          8      pq_serve_udp       440
+ *   pq_cells_size      232      pq_post            280      pq_state_size        8
+ *   pq_check           248      pq_read_serial     296      pq_word              8
+ *   pq_datagram          8      pq_read_udp        184      pq_write_serial    184
+ *   pq_feed             48      pq_serve_data      440      pq_write_udp       184
+ *
+ * No call recurses, and none takes stack by the length of what it is lent. Another part or build differs: fill the stack with a
+ * pattern, make the calls, and see how far down it was overwritten. */
 
 #ifdef __cplusplus
 }
 #endif
+
+#undef PQ_STATIC
 
 #endif
