@@ -1,7 +1,9 @@
 /* A firmware to start from: one box at one address, two probes, its serial line on standard input and output.
  *
- * On a part, `receive` is called from the UART's interrupt or the main loop for each byte, `send` writes to the UART, and
- * `convert` runs when the converter has new readings. Nothing here looks into a lent form. */
+ * Usage: main [FILE]. The file stands for the EEPROM: cells that were saved before the restart.
+ *
+ * One context, the main loop, calls the library. The UART's interrupt puts each byte into a queue and calls nothing. Nothing here
+ * looks into a lent form. */
 #include <stdio.h>
 #include "pualirqiq.h"
 
@@ -33,23 +35,32 @@ enum { PROBE_1, PROBE_2, AVERAGE, RATE, RESTART, PROPERTIES };
 static uint8_t cells[PROPERTIES * PQ_CELL_SIZE];
 static uint8_t state[PQ_STATE_SIZE];
 
-/* What the converter last gave for each probe: hundredths of a degree, and whether the crimp holds. A converter that lost its
- * probe still shows a number; `connected` says that it is none. */
-struct probe {
-    size_t place;
-    int32_t hundredths;
-    uint8_t connected;
-};
+/* ---- The line ---- */
 
-static const struct probe probes[] = {{PROBE_1, 2100, 1}, {PROBE_2, 8500, 0}};
+/* Bytes on their way from the interrupt to the main loop: the one moves `head` alone, the other `tail`. */
+static volatile uint8_t queue[64];
+static volatile uint8_t head, tail;
 
-static void convert(void)
+/* On a part, the UART's interrupt. A byte that finds the queue full is lost, and its frame is dropped or fails its checksum. */
+static void on_byte(uint8_t byte)
 {
-    for (size_t i = 0; i < sizeof probes / sizeof probes[0]; i++) {
-        uint8_t number = pq_post(tree, sizeof tree, cells, sizeof cells, probes[i].place, (uint32_t)probes[i].hundredths, probes[i].connected);
-        if (number != PQ_DONE)
-            fprintf(stderr, "probe %zu: %u\n", i + 1, number);
+    uint8_t next = (uint8_t)((head + 1u) % sizeof queue);
+
+    if (next == tail)
+        return;
+    queue[head] = byte;
+    head = next;
+}
+
+static size_t take_bytes(uint8_t *bytes, size_t room)
+{
+    size_t len = 0;
+
+    while (tail != head && len < room) {
+        bytes[len++] = queue[tail];
+        tail = (uint8_t)((tail + 1u) % sizeof queue);
     }
+    return len;
 }
 
 static void send(const uint8_t *bytes, size_t len)
@@ -63,11 +74,10 @@ static void act(uint8_t place)
         fprintf(stderr, "restart\n");
 }
 
-/* The data of a good frame: answered, and the reply framed. */
+/* The data of a good frame: answered, and the reply framed. Each step has its own buffer. */
 static void answer(const uint8_t *data, size_t data_len)
 {
-    uint8_t reply[PQ_ROOM_DATA];
-    uint8_t string[PQ_ROOM_SERIAL];
+    static uint8_t reply[PQ_ROOM_DATA], string[PQ_ROOM_SERIAL];
     size_t reply_len, string_len;
     uint8_t action;
 
@@ -78,35 +88,96 @@ static void answer(const uint8_t *data, size_t data_len)
         act(action);
 }
 
-/* Bytes as they come, one or many. */
-static void receive(const uint8_t *bytes, size_t len)
+static void serve_line(void)
 {
-    uint8_t data[PQ_ROOM_DATA];
-    size_t taken, data_len;
+    static uint8_t bytes[sizeof queue], data[PQ_ROOM_DATA];
+    size_t len = take_bytes(bytes, sizeof bytes);
+    size_t at = 0, taken, data_len;
 
-    while (len > 0) {
-        uint8_t number = pq_feed(state, sizeof state, ADDRESS, bytes, len, data, sizeof data, &taken, &data_len);
+    while (at < len) {
+        uint8_t number = pq_feed(state, sizeof state, ADDRESS, bytes + at, len - at, data, sizeof data, &taken, &data_len);
         if (number == PQ_DONE)
             answer(data, data_len);
         if (number == PQ_UNSOUND || number == PQ_NO_ROOM)
             return;
-        bytes += taken;
-        len -= taken;
+        at += taken;
     }
 }
 
-int main(void)
+/* ---- The probes ---- */
+
+/* A probe: its place, what the converter shows for it in hundredths of a degree, whether its crimp holds, and the samples since
+ * the last posting. A converter that lost its probe still shows a number; `connected` says that it is none. */
+struct probe {
+    size_t place;
+    int32_t hundredths;
+    uint8_t connected;
+    int32_t sum;
+    uint32_t samples;
+};
+
+static struct probe probes[] = {{PROBE_1, 2100, 1, 0, 0}, {PROBE_2, 8500, 0, 0, 0}};
+
+/* How many samples make a reading: the setting Average, and 1 while it holds 0, as cells that begin do. */
+static uint32_t average(void)
+{
+    uint32_t word;
+
+    if (pq_reading(tree, sizeof tree, cells, sizeof cells, AVERAGE, &word) != PQ_DONE || word == 0)
+        return 1;
+    return word;
+}
+
+static void post(const struct probe *p, int32_t hundredths, uint8_t ready)
+{
+    uint8_t number = pq_post(tree, sizeof tree, cells, sizeof cells, p->place, (uint32_t)hundredths, ready);
+
+    if (number != PQ_DONE)
+        fprintf(stderr, "place %u: %u\n", (unsigned)p->place, (unsigned)number);
+}
+
+/* One sample of a probe. A lost one is posted at once, a reading when it has all its samples. */
+static void convert(struct probe *p)
+{
+    p->sum += p->hundredths;
+    p->samples++;
+    if (p->connected && p->samples < average())
+        return;
+    post(p, p->sum / (int32_t)p->samples, p->connected);
+    p->sum = 0;
+    p->samples = 0;
+}
+
+/* ---- The start, and the main loop ---- */
+
+/* Saved cells, if there are any. What they have of the probes is from before the restart: pq_restore_cells marks it so. */
+static int load_cells(const char *name)
+{
+    FILE *file = name != NULL ? fopen(name, "rb") : NULL;
+    size_t len;
+
+    if (file == NULL)
+        return 0;
+    len = fread(cells, 1, sizeof cells, file);
+    fclose(file);
+    return len == sizeof cells && pq_restore_cells(tree, sizeof tree, cells, sizeof cells) == PQ_DONE;
+}
+
+int main(int argc, char **argv)
 {
     int c;
 
-    if (pq_begin_stream(state, sizeof state) != PQ_DONE || pq_begin_cells(tree, sizeof tree, cells, sizeof cells) != PQ_DONE) {
-        fprintf(stderr, "tree or buffers are not sound\n");
+    pq_begin_stream(state, sizeof state);
+    if (!load_cells(argc > 1 ? argv[1] : NULL) && pq_begin_cells(tree, sizeof tree, cells, sizeof cells) != PQ_DONE) {
+        fprintf(stderr, "the tree is not sound, or the cells are not its\n");
         return 1;
     }
-    convert();
+    /* The line is the clock here: the converter has a sample of each probe ready with every byte. */
     while ((c = getchar()) != EOF) {
-        uint8_t byte = (uint8_t)c;
-        receive(&byte, 1);
+        on_byte((uint8_t)c);
+        serve_line();
+        for (size_t i = 0; i < sizeof probes / sizeof probes[0]; i++)
+            convert(&probes[i]);
     }
     return 0;
 }

@@ -1,9 +1,17 @@
-"""Runs example/main.c, built with the static library, on exchanges of document 01 and compares every byte it sends.
+"""Runs example/main.c, built with the static library, on exchanges of document 01 and compares every byte it sends: from cells
+that begin, from saved cells, and from saved ones that are spoilt.
 
 Usage: example.py PROGRAM. Frames are written here anew, from document 01's section "Frames on the wire".
 """
+import os
 import subprocess
 import sys
+import tempfile
+
+PROBE_1 = "B4 03 01 01 01"
+PROBE_2 = "B4 03 01 01 02"
+AVERAGE = "B4 03 01 02 01"
+RATE = "B4 03 01 02 02"
 
 
 def frame(address, data):
@@ -11,6 +19,14 @@ def frame(address, data):
     content += bytes([255 - sum(content) % 256])
     return b"\x10\x02" + content.replace(b"\x10", b"\x10\x10") + b"\x10\x03"
 
+
+# A form of cells (docs/FORMATS.md): words and marks.
+def form(*cells):
+    return b"".join(word.to_bytes(4, "big") + bytes([mark]) for word, mark in cells)
+
+
+# Noise, and a frame for another box.
+OTHERS = b"\x00\x10\x03" + frame(7, bytes.fromhex("B400"))
 
 # Requests and replies, as document 01 gives them for the bench tree; the read with its status byte (PDI 5.4); Average holds 0
 # until it is written, since the cells begin at 0.
@@ -21,13 +37,13 @@ EXCHANGES = [
         "B4 02 01 02 02",
         "B4 02 01 02 02 02 00000000 00000001 0003 1080 52 61 74 65 00 53 6C 6F 77 00 46 61 73 74 00",
     ),
-    ("B4 03 01 01 01", "B4 03 01 01 01 01 00000834"),
-    ("B4 03 01 01 02", "58"),
-    ("B4 03 01 02 01", "B4 03 01 02 01 01 00000000"),
+    (PROBE_1, PROBE_1 + "01 00000834"),
+    (PROBE_2, "58"),
+    (AVERAGE, AVERAGE + "01 00000000"),
     ("B4 04 01 02 01 00 00000040", "B4 04 01 02 01 00 00000040 01"),
-    ("B4 03 01 02 01", "B4 03 01 02 01 01 00000040"),
+    (AVERAGE, AVERAGE + "01 00000040"),
     ("B4 04 01 02 01 00 00000041", "B4 04 01 02 01 00 00000041 00"),
-    ("B4 03 01 02 01", "B4 03 01 02 01 01 00000040"),
+    (AVERAGE, AVERAGE + "01 00000040"),
     ("B4 04 01 02 02 00 00000002", "B4 04 01 02 02 00 00000002 00"),
     ("B4 04 01 02 03 00 00000000", "B4 04 01 02 03 00 00000000 02"),
     (
@@ -38,26 +54,60 @@ EXCHANGES = [
     ("B4 03 01 03 01", "54"),
     ("B4 06", "59"),
 ]
+BEGUN = [(OTHERS, request, reply) for request, reply in EXCHANGES]
+
+# Saved when both probes were ready and the settings were not those that cells begin with.
+SAVED = form((1999, 1), (8500, 1), (64, 0), (1, 0), (0, 0))
+
+# The settings are back. A probe is not, until 64 samples (one with each byte) made a new reading: each request has 11 bytes, so
+# that the fifth one ends with the 64th byte.
+RESTORED = [
+    (b"", PROBE_1, "58"),
+    (b"", PROBE_2, "58"),
+    (b"", AVERAGE, AVERAGE + "01 00000040"),
+    (b"", RATE, RATE + "01 00000001"),
+    (bytes(9), PROBE_1, "58"),
+    (b"", PROBE_1, PROBE_1 + "01 00000834"),
+    (b"", PROBE_2, "58"),
+]
+
+# Nothing of spoilt cells is used, and the program begins where there are none.
+AFRESH = [(b"", PROBE_1, PROBE_1 + "01 00000834"), (b"", AVERAGE, AVERAGE + "01 00000000"), (b"", RATE, RATE + "01 00000000")]
+
+RUNS = [
+    ("begun", None, BEGUN, b"restart\n"),
+    ("restored", SAVED, RESTORED, b""),
+    ("with a mark of 2", SAVED[:4] + b"\x02" + SAVED[5:], AFRESH, b""),
+    ("a byte short", SAVED[:-1], AFRESH, b""),
+    ("in no file", b"", AFRESH, b""),
+]
+
+
+def is_answered(program, saved, exchanges, told):
+    sent = b"".join(before + frame(0, bytes.fromhex(request)) for before, request, _ in exchanges)
+    expected = b"".join(frame(0, bytes.fromhex(reply)) for _, _, reply in exchanges)
+    with tempfile.TemporaryDirectory() as folder:
+        name = os.path.join(folder, "cells")
+        if saved:
+            with open(name, "wb") as file:
+                file.write(saved)
+        command = [program] if saved is None else [program, name]
+        run = subprocess.run(command, input=sent, capture_output=True, check=False)
+    if run.returncode == 0 and run.stdout == expected and run.stderr == told:
+        return True
+    print("sent    ", run.stdout.hex(" "))
+    print("expected", expected.hex(" "))
+    print(f"ended with {run.returncode}, told {run.stderr}")
+    return False
 
 
 def main():
-    program = sys.argv[1]
     failed = 0
-    sent = b""
-    expected = b""
-    for request, reply in EXCHANGES:
-        # noise, a frame for another box, and the request
-        sent += b"\x00\x10\x03" + frame(7, bytes.fromhex("B400")) + frame(0, bytes.fromhex(request))
-        expected += frame(0, bytes.fromhex(reply))
-    run = subprocess.run([program], input=sent, capture_output=True, check=False)
-    if run.returncode != 0 or run.stdout != expected:
-        print("example: sent", run.stdout.hex(" "))
-        print("expected     ", expected.hex(" "))
-        failed += 1
-    if run.stderr != b"restart\n":
-        print("example: told", run.stderr)
-        failed += 1
-    print(f"example: {len(EXCHANGES)} exchanges, {failed} failed")
+    for name, saved, exchanges, told in RUNS:
+        if not is_answered(sys.argv[1], saved, exchanges, told):
+            print(f"example: cells {name}: failed")
+            failed += 1
+    print(f"example: {sum(len(exchanges) for _, _, exchanges, _ in RUNS)} exchanges in {len(RUNS)} runs, {failed} failed")
     return 1 if failed else 0
 
 

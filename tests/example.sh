@@ -1,10 +1,26 @@
 #!/usr/bin/env bash
-# Builds example/main.c with the static library and runs it on a few exchanges; holds the library to what it may need of C.
+# Builds example/main.c with the static library and runs it on a few exchanges; holds the library to what the header says of it:
+# what it needs of C, that it has no data of its own, slices of length 0, and stack.
 set -e
 cd "$(dirname "$0")/.."
+library=target/staticlib/libpualirqiq.a
+strict="-Wall -Wextra -Wpedantic -Werror -Iinclude"
+
 rt staticlib pualirqiq > target/staticlib.log 2>&1 || { tail -n 5 target/staticlib.log; exit 1; }
-# The header says what the library needs of C.
-others=$(nm --undefined-only target/staticlib/libpualirqiq.a | awk '$1 == "U" && $2 != "memcpy" && $2 != "memset" { print $2 }')
+others=$(nm --undefined-only $library | awk '$1 == "U" && $2 != "memcpy" && $2 != "memset" { print $2 }')
 [ -z "$others" ] || { echo "the library also needs: $others"; exit 1; }
-cc -std=c99 -Wall -Wextra -Werror -O2 -Iinclude -o target/example example/main.c target/staticlib/libpualirqiq.a
+data=$(size $library | awk 'NR > 1 { sum += $2 + $3 } END { print sum }')
+[ "$data" = 0 ] || { echo "the library has data of its own: $data bytes"; exit 1; }
+
+for standard in c90 c99 c11; do
+    cc -std=$standard $strict -fsyntax-only -x c include/pualirqiq.h
+done
+if command -v c++ > /dev/null; then
+    c++ -std=c++17 $strict -fsyntax-only -x c++ include/pualirqiq.h
+fi
+
+cc -std=c99 $strict -O2 -o target/example example/main.c $library
 python3 tests/example.py target/example
+cc -std=c99 $strict -O2 -Wl,--wrap=memcpy,--wrap=memset -o target/null tests/null.c $library
+target/null
+python3 tests/stack.py $library include/pualirqiq.h

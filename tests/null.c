@@ -1,0 +1,150 @@
+/* Slices of length 0: every export with NULL for each of its slices, and again with another pointer. The numbers are those of
+ * document 01, and neither memcpy nor memset is handed NULL: link with --wrap=memcpy and --wrap=memset. */
+#include <stdio.h>
+#include <stdlib.h>
+#include "pualirqiq.h"
+
+/* One node "B" without properties, so that no cells are sound ones. */
+static const uint8_t tree[] = {1, 0, 0, 0, 5, 'B', 0};
+/* One property, which needs a cell. */
+static const uint8_t wide[] = {1, 1, 0, 0, 21, 0, 1, 0, 0, 0, 0, 0, 0, 0, 0, 0x20, 0x01, 0, 0, 0, 23, 'B', 0, 'P', 0, 'C', 0};
+
+static uint8_t state[PQ_STATE_SIZE], cell[PQ_CELL_SIZE], out[PQ_ROOM_SERIAL], path[PQ_PATH_SIZE], op, index, action;
+static size_t len, taken, offset;
+static uint32_t word;
+static unsigned calls, failed;
+
+void *__real_memcpy(void *to, const void *from, size_t n);
+void *__real_memset(void *to, int byte, size_t n);
+void *__wrap_memcpy(void *to, const void *from, size_t n);
+void *__wrap_memset(void *to, int byte, size_t n);
+
+static void refuse(const char *what)
+{
+    printf("null: %s is handed NULL\n", what);
+    exit(1);
+}
+
+void *__wrap_memcpy(void *to, const void *from, size_t n)
+{
+    if (to == NULL || from == NULL)
+        refuse("memcpy");
+    return __real_memcpy(to, from, n);
+}
+
+void *__wrap_memset(void *to, int byte, size_t n)
+{
+    if (to == NULL)
+        refuse("memset");
+    return __real_memset(to, byte, n);
+}
+
+static void expect(int line, unsigned long number, unsigned long wanted)
+{
+    calls++;
+    if (number == wanted)
+        return;
+    printf("null: line %d gives %lu for %lu\n", line, number, wanted);
+    failed++;
+}
+
+#define EXPECT(wanted, call) expect(__LINE__, call, wanted)
+
+static void on_streams(uint8_t *none)
+{
+    static const uint8_t opened[] = {0x10, 0x02, 0x00, 0xB4, 0x10};
+
+    EXPECT(1, pq_begin_stream(none, 0));
+    EXPECT(0, pq_begin_stream(state, sizeof state));
+    EXPECT(1, pq_feed(none, 0, 0, opened, sizeof opened, out, sizeof out, &taken, &len));
+    EXPECT(8, pq_feed(state, sizeof state, 0, opened, sizeof opened, none, 0, &taken, &len));
+    /* outside, inside, and with a 10h waiting */
+    for (size_t n = 0; n <= sizeof opened; n++) {
+        pq_begin_stream(state, sizeof state);
+        EXPECT(255, pq_feed(state, sizeof state, 0, opened, n, out, sizeof out, &taken, &len));
+        EXPECT(255, pq_feed(state, sizeof state, 0, none, 0, out, sizeof out, &taken, &len));
+        EXPECT(0, taken);
+    }
+}
+
+static void on_cells(uint8_t *none)
+{
+    EXPECT(1, pq_check_tree(none, 0));
+    EXPECT(1, pq_check(none, 0, none, 0));
+    EXPECT(0, pq_check(tree, sizeof tree, none, 0));
+    EXPECT(0, pq_check(wide, sizeof wide, cell, sizeof cell));
+    EXPECT(1, pq_check(wide, sizeof wide, none, 0));
+    EXPECT(0, pq_cells_size(none, 0));
+    EXPECT(1, pq_begin_cells(none, 0, none, 0));
+    EXPECT(0, pq_begin_cells(tree, sizeof tree, none, 0));
+    EXPECT(1, pq_begin_cells(wide, sizeof wide, none, 0));
+    EXPECT(1, pq_restore_cells(none, 0, none, 0));
+    EXPECT(0, pq_restore_cells(tree, sizeof tree, none, 0));
+    EXPECT(1, pq_restore_cells(wide, sizeof wide, none, 0));
+    EXPECT(1, pq_post(none, 0, none, 0, 0, 1, 1));
+    EXPECT(14, pq_post(tree, sizeof tree, none, 0, 0, 1, 1));
+    EXPECT(1, pq_post(wide, sizeof wide, none, 0, 0, 1, 1));
+    EXPECT(1, pq_reading(none, 0, none, 0, 0, &word));
+    EXPECT(11, pq_reading(tree, sizeof tree, none, 0, 0, &word));
+    EXPECT(1, pq_reading(wide, sizeof wide, none, 0, 0, &word));
+}
+
+static void on_serving(uint8_t *none)
+{
+    static const uint8_t detect[] = {0xB4, 0}, node[] = {0xB4, 1, 1}, read[] = {0xB4, 3, 1, 1};
+    static const uint8_t string[] = {0x10, 0x02, 0x00, 0xB4, 0x00, 0x4B, 0x10, 0x03}, datagram[] = {0, 0, 0, 0, 0xB4, 0};
+
+    EXPECT(1, pq_serve_data(none, 0, none, 0, 1, none, 0, none, 0, &len, &action));
+    EXPECT(8, pq_serve_data(tree, sizeof tree, none, 0, 1, none, 0, none, 0, &len, &action));
+    EXPECT(4, pq_serve_data(tree, sizeof tree, none, 0, 1, none, 0, out, sizeof out, &len, &action));
+    EXPECT(0, pq_serve_data(tree, sizeof tree, none, 0, 1, detect, sizeof detect, out, sizeof out, &len, &action));
+    EXPECT(0, pq_serve_data(tree, sizeof tree, none, 0, 1, node, sizeof node, out, sizeof out, &len, &action));
+    EXPECT(11, pq_serve_data(tree, sizeof tree, none, 0, 1, read, sizeof read, out, sizeof out, &len, &action));
+    EXPECT(1, pq_serve_serial(none, 0, none, 0, 1, 0, none, 0, none, 0, &len, &action));
+    EXPECT(8, pq_serve_serial(tree, sizeof tree, none, 0, 1, 0, none, 0, none, 0, &len, &action));
+    EXPECT(2, pq_serve_serial(tree, sizeof tree, none, 0, 1, 0, none, 0, out, sizeof out, &len, &action));
+    EXPECT(0, pq_serve_serial(tree, sizeof tree, none, 0, 1, 0, string, sizeof string, out, sizeof out, &len, &action));
+    EXPECT(1, pq_serve_udp(none, 0, none, 0, 1, none, 0, none, 0, &len, &action));
+    EXPECT(8, pq_serve_udp(tree, sizeof tree, none, 0, 1, none, 0, none, 0, &len, &action));
+    EXPECT(2, pq_serve_udp(tree, sizeof tree, none, 0, 1, none, 0, out, sizeof out, &len, &action));
+    EXPECT(0, pq_serve_udp(tree, sizeof tree, none, 0, 1, datagram, sizeof datagram, out, sizeof out, &len, &action));
+}
+
+static void on_frames(uint8_t *none)
+{
+    EXPECT(8, pq_frame(0, none, 0, none, 0, &len));
+    EXPECT(4, pq_frame(0, none, 0, out, sizeof out, &len));
+    EXPECT(8, pq_datagram(none, 0, none, 0, &len));
+    EXPECT(4, pq_datagram(none, 0, out, sizeof out, &len));
+    EXPECT(8, pq_read_frame(0, none, 0, none, 0, &len));
+    EXPECT(2, pq_read_frame(0, none, 0, out, sizeof out, &len));
+    EXPECT(2, pq_datagram_data(none, 0, &offset, &len));
+}
+
+static void on_requests(uint8_t *none)
+{
+    EXPECT(2, pq_read_serial(0, none, 0, &op, path, &len, &index, &word));
+    EXPECT(2, pq_read_udp(none, 0, &op, path, &len, &index, &word));
+    EXPECT(8, pq_write_serial(0, 0, none, 0, 0, 0, none, 0, &len));
+    EXPECT(0, pq_write_serial(0, 0, none, 0, 0, 0, out, sizeof out, &len));
+    EXPECT(11, pq_write_serial(0, 1, none, 0, 0, 0, out, sizeof out, &len));
+    EXPECT(8, pq_write_udp(0, none, 0, 0, 0, none, 0, &len));
+    EXPECT(0, pq_write_udp(0, none, 0, 0, 0, out, sizeof out, &len));
+    EXPECT(11, pq_write_udp(1, none, 0, 0, 0, out, sizeof out, &len));
+}
+
+int main(void)
+{
+    static uint8_t some[1];
+    uint8_t *pointers[] = {NULL, some};
+
+    for (size_t i = 0; i < 2; i++) {
+        on_streams(pointers[i]);
+        on_cells(pointers[i]);
+        on_serving(pointers[i]);
+        on_frames(pointers[i]);
+        on_requests(pointers[i]);
+    }
+    printf("null: %u calls, %u failed\n", calls, failed);
+    return failed != 0;
+}
