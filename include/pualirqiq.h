@@ -61,8 +61,8 @@ enum {
 enum {
     PQ_DONE = 0,
     PQ_UNSOUND = 1,          /* tree, cells or state have no sound form, or do not fit each other */
-    PQ_NO_PREAMBLE = 2,      /* a string that does not begin with 10 02, a datagram that does not with four zeros */
-    PQ_BAD_PAIR = 3,         /* a 10h with a wrong byte behind it; a string that does not end with its first 10 03 */
+    PQ_NO_PREAMBLE = 2,      /* a string does not begin with 10 02, or a datagram not with four zeros */
+    PQ_BAD_PAIR = 3,         /* a wrong byte behind a 10h, or a string does not end with its first 10 03 */
     PQ_TOO_SHORT = 4,        /* no data */
     PQ_TOO_LONG = 5,         /* more than 256 bytes of data */
     PQ_BAD_CHECKSUM = 6,
@@ -122,8 +122,8 @@ size_t pq_cells_size(const uint8_t *tree, size_t tree_len);
  * 1: the tree is not sound, or cells_len is not its pq_cells_size. 0. */
 uint8_t pq_begin_cells(const uint8_t *tree, size_t tree_len, uint8_t *cells, size_t cells_len);
 
-/* Cells that were saved, made fit for use after a start: every live property is marked not ready until it is posted again, so
- * that no reading of before is answered as one of now. All else stays, words and settings.
+/* Cells that were saved (their bytes copied, between two calls), made fit for use after a start: every live property is marked
+ * not ready until it is posted again, so that no old reading is answered as a new one. All else stays, words and settings.
  * 1: as pq_check; begin with pq_begin_cells then. 0. */
 uint8_t pq_restore_cells(const uint8_t *tree, size_t tree_len, uint8_t *cells, size_t cells_len);
 
@@ -199,8 +199,8 @@ uint8_t pq_read_udp(const uint8_t *datagram, size_t datagram_len, uint8_t *op, u
     size_t *path_len, uint8_t *index, uint32_t *value);
 
 /* A request written out in a frame for an address.
- * 8: out_len is under PQ_ROOM_SERIAL. 10: an op above 5. 11: a part that the op asks for has not its form, or it does not ask
- * for it. *len is 0 then. 0: *len is the length of the string at the front of out. */
+ * 8: out_len is under PQ_ROOM_SERIAL. 10: an op above 5. 11: path, index or value is not as the op asks for it.
+ * *len is 0 then. 0: *len is the length of the string at the front of out. */
 uint8_t pq_write_serial(uint8_t address, uint8_t op, const uint8_t *path, size_t path_len, uint8_t index, uint32_t value,
     uint8_t *out, size_t out_len, size_t *len);
 
@@ -210,14 +210,15 @@ uint8_t pq_write_udp(uint8_t op, const uint8_t *path, size_t path_len, uint8_t i
 
 /* ---- Stack ----
  * The most that a call needs, in bytes, on x86-64 (python3 tests/stack.py target/staticlib/libpualirqiq.a): with its return
- * address, and without its arguments, which are the caller's, and what memcpy and memset take themselves.
+ * address, and without its arguments, which are the caller's, and without what memcpy and memset take themselves.
  *
- *   pq_begin_cells     248      pq_frame            16      pq_serve_serial    712
- *   pq_begin_stream     24      pq_is_ready          8      pq_serve_udp       440
- *   pq_cells_size      232      pq_post            280      pq_state_size        8
- *   pq_check           248      pq_read_serial     296      pq_word              8
+ *   pq_begin_cells     248      pq_feed             48      pq_restore_cells   264
+ *   pq_begin_stream     24      pq_frame            16      pq_serve_data      440
+ *   pq_cells_size      232      pq_post            280      pq_serve_serial    712
+ *   pq_check           248      pq_read_frame      112      pq_serve_udp       440
+ *   pq_check_tree      216      pq_read_serial     312      pq_state_size        8
  *   pq_datagram          8      pq_read_udp        184      pq_write_serial    184
- *   pq_feed             48      pq_serve_data      440      pq_write_udp       184
+ *   pq_datagram_data     8      pq_reading         280      pq_write_udp       184
  *
  * No call recurses, and none takes stack by the length of what it is lent. Another part or build differs: fill the stack with a
  * pattern, make the calls, and see how far down it was overwritten. */
