@@ -170,10 +170,10 @@ restored-cell (p ∷ ps) (c ∷ cs) (suc k) = restored-cell ps cs k
 
 module _ (ps : List Property) (cs : List Cell) (k : ℕ) where
   pub restored-live : isLive (propertyAt ps k) ≡ true → cellIn (restored ps cs) k ≡ record { word = cellIn cs k .word; ready = false }
-  restored-live e = restored-cell ps cs k ∙ ap (λ t. cond t (unready (cellIn cs k)) (cellIn cs k)) e
+  restored-live e = rw (restored-cell ps cs k, e)
 
   pub restored-others : isLive (propertyAt ps k) ≡ false → cellIn (restored ps cs) k ≡ cellIn cs k
-  restored-others e = restored-cell ps cs k ∙ ap (λ t. cond t (unready (cellIn cs k)) (cellIn cs k)) e
+  restored-others e = rw (restored-cell ps cs k, e)
 
 pub restored-length : (ps : List Property) (cs : List Cell) → length (restored ps cs) ≡ length cs
 unfolding restored
