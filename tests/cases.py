@@ -1,11 +1,12 @@
 """The second program of document 01: what crates/cases must print, worked out anew from documents 01 and 003.
 
-Usage: cases.py            prints the expected lines (crates/cases/stdout)
-       cases.py program    prints the cases as Rattle source (crates/cases/src/main.rt)
-       cases.py trees      prints the trees in their lent form as Rattle source (crates/cases/src/trees.rt)
+Usage: cases.py write      writes the files of crates/cases: stdout, the expected lines; src/main.rt, the cases as Rattle
+                           source; src/trees.rt, the trees in their lent form
+       cases.py check      says whether the files there are these, byte for byte
 Nothing here was taken from the program's output. Each case: name, call, arguments; the answer is worked out by the rules below,
 and `SAYS` holds the answers that the documents print in full, which the rules are compared with.
 """
+import pathlib
 import sys
 
 H = bytes.fromhex
@@ -471,7 +472,7 @@ def lines():
             yield ("  op" if k == 1 and call.startswith("read_") else name) + ": " + says
 
 
-# The cases as Rattle source.
+# The cases as Rattle source, in the layout of `rt fmt`.
 def literal(x):
     if isinstance(x, int):
         return str(x)
@@ -482,48 +483,79 @@ def literal(x):
     return 'b"' + "".join(f"\\x{b:02X}" for b in x) + '"'
 
 
+def listed(before, items, after):
+    """A list, on one line where its items take no more than 60 columns."""
+    if len(", ".join(items)) <= 60:
+        return f"    {before}{', '.join(items)}{after}\n"
+    return f"    {before}\n" + "".join(f"        {item},\n" for item in items) + f"    {after}\n"
+
+
 MODULE = {"data": "serve", "twice": "serve", "limits": "serve", "penko": "serve", "serial": "serve", "udp": "serve", "post": "serve"}
+
+PROGRAM = """\
+// The cases of documents 01 and 003, a line each (tests/cases.py writes this file, and works out what it must print).
+mod serve;
+mod show;
+mod trees;
+mod wire;
+
+// A frame of 296 content bytes.
+fn long_string() -> [u8; 300] {
+    let mut s = [0u8; 300];
+    s[0] = 16;
+    s[1] = 2;
+    s[298] = 16;
+    s[299] = 3;
+    s
+}
+
+"""
+
+
+def statement(name, call, args):
+    base = call.removesuffix("_no_room").removesuffix("_unsound").removesuffix("_off")
+    module = MODULE.get(base, "wire")
+    values = [literal(a) for a in args]
+    if base == "post":
+        values[2] = "true" if args[2] else "false"
+    if module == "serve" and call in ("data", "serial", "udp", "data_off", "serial_off", "udp_off"):
+        values.insert(0, "false" if call.endswith("_off") else "true")
+        call = base
+    return listed(f"{module}::{call}(", [f'b"{name}"', *values], ");")
 
 
 def program():
-    print("// The cases of documents 01 and 003, a line each (tests/cases.py writes this file, and works out what it must print).")
-    print("mod serve;\nmod show;\nmod trees;\nmod wire;\n")
-    print("// A frame of 296 content bytes.\nfn long_string() -> [u8; 300] {\n    let mut s = [0u8; 300];")
-    print("    s[0] = 16;\n    s[1] = 2;\n    s[298] = 16;\n    s[299] = 3;\n    s\n}\n")
+    out = PROGRAM
     groups = [CASES[i : i + 8] for i in range(0, len(CASES), 8)]
     for k, group in enumerate(groups):
-        print(f"fn cases_{k}() {{")
-        for name, call, *args in group:
-            base = call.removesuffix("_no_room").removesuffix("_unsound").removesuffix("_off")
-            module = MODULE.get(base, "wire")
-            values = [literal(a) for a in args]
-            if base == "post":
-                values[2] = "true" if args[2] else "false"
-            if module == "serve" and call in ("data", "serial", "udp", "data_off", "serial_off", "udp_off"):
-                values.insert(0, "false" if call.endswith("_off") else "true")
-                call = base
-            print(f'    {module}::{call}(b"{name}", {", ".join(values)});')
-        print("}\n")
-    print("fn main() {")
-    for k in range(len(groups)):
-        print(f"    cases_{k}();")
-    print("}")
+        out += f"fn cases_{k}() {{\n" + "".join(statement(name, call, args) for name, call, *args in group) + "}\n\n"
+    return out + "fn main() {\n" + "".join(f"    cases_{k}();\n" for k in range(len(groups))) + "}\n"
 
 
 def trees():
-    print("// Trees in their lent form (docs/FORMATS.md), and their cells; written by tests/cases.py.")
+    functions = []
     for name, tree in (("limits", limits()), ("penko", penko())):
         for what, bs in (("tree", tree.form()), ("cells", tree.cell_bytes())):
-            print(f"pub(crate) fn {name}_{what}() -> [u8; {len(bs)}] {{\n    [")
-            for i in range(0, len(bs), 20):
-                print("        " + ", ".join(str(b) for b in bs[i : i + 20]) + ",")
-            print("    ]\n}\n")
+            head = f"pub(crate) fn {name}_{what}() -> [u8; {len(bs)}] {{\n"
+            functions.append(head + listed("[", [str(b) for b in bs], "]") + "}\n")
+    title = "// Trees in their lent form (docs/FORMATS.md), and their cells; written by tests/cases.py.\n"
+    return title + "\n".join(functions)
+
+
+def main(words):
+    crate = pathlib.Path(__file__).parent.parent / "crates/cases"
+    files = {"stdout": "".join(line + "\n" for line in lines()), "src/main.rt": program(), "src/trees.rt": trees()}
+    if words == ["write"]:
+        for name, text in files.items():
+            (crate / name).write_bytes(text.encode())
+    elif words == ["check"]:
+        other = [name for name, text in files.items() if (crate / name).read_bytes() != text.encode()]
+        if other:
+            sys.exit("cases: not as tests/cases.py writes it: " + ", ".join(other))
+        print("cases: same")
+    else:
+        sys.exit(__doc__)
 
 
 if __name__ == "__main__":
-    if sys.argv[1:] == ["program"]:
-        program()
-    elif sys.argv[1:] == ["trees"]:
-        trees()
-    else:
-        print("\n".join(lines()))
+    main(sys.argv[1:])
