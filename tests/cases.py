@@ -294,6 +294,11 @@ CASES = [
     ("datagram/2", "datagram", H("00000100B400")),
     ("datagram/4", "datagram", H("00000000")),
     ("datagram/5", "datagram", bytes(261)),
+    ("write_datagram/0", "write_datagram", H("55")),
+    ("write_datagram/0 of 256", "write_datagram", b"\x10" * 256),
+    ("write_datagram/8", "write_datagram_no_room", b""),
+    ("write_datagram/4", "write_datagram", b""),
+    ("write_datagram/5", "write_datagram", bytes(257)),
     ("feed/255 noise 10h", "feed", 0, H("FF10") + PING),
     ("feed/0", "feed", 0, H("FF") + PING),
     ("feed/1", "feed_unsound", 0, PING),
@@ -436,6 +441,9 @@ def answers(call, args):
     if base == "write_frame":
         address, d = args
         return [(size(d), frame(address, d) if size(d) == 0 else b"")]
+    if base == "write_datagram":
+        number = size(*args)
+        return [(number, b"" if number else bytes(4) + args[0])]
     if base == "read_frame":
         return [string(*args)]
     if base == "datagram":
@@ -476,8 +484,8 @@ def lines():
 def literal(x):
     if isinstance(x, int):
         return str(x)
-    if len(x) > 40 and not any(x):
-        return f"&[0u8; {len(x)}]"
+    if len(x) > 40 and len(set(x)) == 1:
+        return f"&[{x[0]}u8; {len(x)}]"
     if x == LONG_STRING:
         return "&long_string()"
     return 'b"' + "".join(f"\\x{b:02X}" for b in x) + '"'

@@ -101,6 +101,14 @@ fn cases_4() {
     wire::datagram(b"datagram/2", b"\x00\x00\x01\x00\xB4\x00");
     wire::datagram(b"datagram/4", b"\x00\x00\x00\x00");
     wire::datagram(b"datagram/5", &[0u8; 261]);
+    wire::write_datagram(b"write_datagram/0", b"\x55");
+    wire::write_datagram(b"write_datagram/0 of 256", &[16u8; 256]);
+    wire::write_datagram_no_room(b"write_datagram/8", b"");
+    wire::write_datagram(b"write_datagram/4", b"");
+    wire::write_datagram(b"write_datagram/5", &[0u8; 257]);
+}
+
+fn cases_5() {
     wire::feed(
         b"feed/255 noise 10h",
         0,
@@ -110,12 +118,12 @@ fn cases_4() {
     wire::feed_unsound(b"feed/1", 0, b"\x10\x02\x00\xB4\x00\x4B\x10\x03");
     wire::feed_no_room(b"feed/8", 0, b"\x10\x02\x00\xB4\x00\x4B\x10\x03");
     wire::feed(b"feed/3", 0, b"\x10\x02\x00\x10\x05");
-}
-
-fn cases_5() {
     wire::feed(b"feed/5", 0, &long_string());
     wire::feed(b"feed/6", 0, b"\x10\x02\x00\xB4\x00\x4C\x10\x03");
     wire::feed(b"feed/7", 1, b"\x10\x02\x00\xB4\x00\x4B\x10\x03");
+}
+
+fn cases_6() {
     wire::feed(b"feed/255", 0, b"\x10\x02\x00\xB4\x00\x4B\x10");
     wire::feed(
         b"feed/afresh",
@@ -130,9 +138,6 @@ fn cases_5() {
         b"\x10\x02\x00\xB4\x00\x4B\x10\x03",
     );
     wire::read_serial(b"read_serial/0", 0, b"\x10\x02\x00\xB4\x00\x4B\x10\x03");
-}
-
-fn cases_6() {
     wire::read_serial(
         b"read_serial/0",
         7,
@@ -140,14 +145,14 @@ fn cases_6() {
     );
     wire::read_serial(b"read_serial/2", 0, b"");
     wire::read_serial(b"read_serial/3", 0, b"\x10\x02\x00\x10\x10\x03");
+}
+
+fn cases_7() {
     wire::read_serial(b"read_serial/4", 0, b"\x10\x02\x10\x03");
     wire::read_serial(b"read_serial/5", 0, &long_string());
     wire::read_serial(b"read_serial/6", 0, b"\x10\x02\x00\xB4\x00\x4C\x10\x03");
     wire::read_serial(b"read_serial/7", 1, b"\x10\x02\x00\xB4\x00\x4B\x10\x03");
     wire::read_serial(b"read_serial/10", 0, b"\x10\x02\x00\xB4\x06\x45\x10\x03");
-}
-
-fn cases_7() {
     wire::read_serial(
         b"read_serial/11",
         0,
@@ -155,28 +160,31 @@ fn cases_7() {
     );
     wire::read_udp(b"read_udp/0", b"\x00\x00\x00\x00\xB4\x03\x01\x01\x01");
     wire::read_udp(b"read_udp/2", b"\x00\x00\x00");
+}
+
+fn cases_8() {
     wire::read_udp(b"read_udp/4", b"\x00\x00\x00\x00");
     wire::read_udp(b"read_udp/5", &[0u8; 261]);
     wire::read_udp(b"read_udp/10", b"\x00\x00\x00\x00\x00");
     wire::read_udp(b"read_udp/11", b"\x00\x00\x00\x00\xB4");
     wire::write_serial(b"write_serial/0", 16, 4, b"\x01\x10", 16, 268435472);
-}
-
-fn cases_8() {
     wire::write_serial_no_room(b"write_serial/8", 0, 9, b"", 0, 0);
     wire::write_serial(b"write_serial/10", 0, 6, b"", 0, 0);
     wire::write_serial(b"write_serial/11", 0, 1, b"\x01\x00", 0, 0);
+}
+
+fn cases_9() {
     wire::write_udp(b"write_udp/0", 3, b"\x01\x01", 1, 0);
     wire::write_udp_no_room(b"write_udp/8", 9, b"", 0, 0);
     wire::write_udp(b"write_udp/10", 6, b"", 0, 0);
     wire::write_udp(b"write_udp/11", 3, b"\x01\x01", 1, 5);
     serve::data(b"serve_data/0", true, b"\xB4\x00");
-}
-
-fn cases_9() {
     serve::data(b"serve_data/0 op 1", true, b"\xB4\x01\x01");
     serve::data(b"serve_data/0 op 2", true, b"\xB4\x02\x01\x02\x02");
     serve::data(b"serve_data/0 op 3", true, b"\xB4\x03\x01\x01\x01");
+}
+
+fn cases_10() {
     serve::data(
         b"serve_data/0 op 5",
         true,
@@ -186,12 +194,12 @@ fn cases_9() {
     serve::data_no_room(b"serve_data/8", b"\xB4\x00");
     serve::data(b"serve_data/4", true, b"");
     serve::data(b"serve_data/5", true, &[0u8; 257]);
-}
-
-fn cases_10() {
     serve::data(b"serve_data/9", false, b"\xFF");
     serve::data(b"serve_data/10", true, b"\xB4\x06");
     serve::data(b"serve_data/11", true, b"\xB4\x03\x01\x03\x01");
+}
+
+fn cases_11() {
     serve::data(
         b"serve_data/11 shape",
         true,
@@ -209,9 +217,6 @@ fn cases_10() {
         true,
         b"\xB4\x05\x01\x02\x01\x00\x00\x00\x00\x00",
     );
-}
-
-fn cases_11() {
     serve::serial(
         b"serve_serial/0",
         true,
@@ -225,14 +230,14 @@ fn cases_11() {
         b"\x10\x02\x10\x10\xB4\x00\x3B\x10\x03",
     );
     serve::serial_unsound(b"serve_serial/1", b"\x10\x02\x00\xB4\x00\x4B\x10\x03");
+}
+
+fn cases_12() {
     serve::serial_no_room(b"serve_serial/8", b"\x10\x02\x00\xB4\x00\x4B\x10\x03");
     serve::serial(b"serve_serial/2", true, 0, b"\xB4\x00");
     serve::serial(b"serve_serial/3", true, 0, b"\x10\x02\x00\x10\x10\x03");
     serve::serial(b"serve_serial/4", true, 0, b"\x10\x02\x10\x03");
     serve::serial(b"serve_serial/5", true, 0, &long_string());
-}
-
-fn cases_12() {
     serve::serial(
         b"serve_serial/6",
         true,
@@ -251,6 +256,9 @@ fn cases_12() {
         0,
         b"\x10\x02\x00\xB4\x00\x4B\x10\x03",
     );
+}
+
+fn cases_13() {
     serve::serial(b"serve_serial/10", true, 0, b"\x10\x02\x00\xFF\x00\x10\x03");
     serve::serial(b"serve_serial/11", true, 0, b"\x10\x02\x00\xB4\x4B\x10\x03");
     serve::serial(
@@ -270,20 +278,17 @@ fn cases_12() {
         true,
         b"\x00\x00\x00\x00\xB4\x03\x01\x01\x01",
     );
-}
-
-fn cases_13() {
     serve::udp_unsound(b"serve_udp/1", b"\x00\x00\x00\x00\xB4\x00");
     serve::udp_no_room(b"serve_udp/8", b"\x00\x00\x00\x00\xB4\x00");
     serve::udp(b"serve_udp/2", true, b"\x00\x00\x00");
+}
+
+fn cases_14() {
     serve::udp(b"serve_udp/4", true, b"\x00\x00\x00\x00");
     serve::udp(b"serve_udp/5", true, &[0u8; 261]);
     serve::udp(b"serve_udp/9", false, b"\x00\x00\x00\x00\xB4\x00");
     serve::udp(b"serve_udp/10", true, b"\x00\x00\x00\x00\xB4\xFF\x01");
     serve::udp(b"serve_udp/11", true, b"\x00\x00\x00\x00\xB4\x01\x02");
-}
-
-fn cases_14() {
     serve::udp(
         b"serve_udp/12",
         true,
@@ -295,6 +300,9 @@ fn cases_14() {
         b"\x00\x00\x00\x00\xB4\x05\x01\x01\x01\x00\x00\x00\x00\x00",
     );
     serve::post(b"post/0", 1, 2150, true);
+}
+
+fn cases_15() {
     serve::post(b"post/0 not ready", 0, 8500, false);
     serve::post_unsound(b"post/1", 1, 2150, true);
     serve::post(b"post/14 no cell", 5, 1, true);
@@ -304,12 +312,12 @@ fn cases_14() {
         0,
         b"\xFF\xFF\xFF\xFF\xFF\xFF\xFF\xFF\xFF\xFF\xFF\xFF\xFF\xFF\xFF\xFF\xFF\xFF\x46",
     );
-}
-
-fn cases_15() {
     serve::penko(b"003/5.1", b"\xB4\x00");
     serve::penko(b"003/5.2 totals", b"\xB4\x01\x01\x01\x0A");
     serve::penko(b"003/5.3 weigher", b"\xB4\x02\x01\x01\x03\x01\x01");
+}
+
+fn cases_16() {
     serve::penko(b"003/5.3 layout", b"\xB4\x02\x01\x03\x0A\x01\x01");
     serve::penko(b"003/5.4 weight", b"\xB4\x03\x01\x01\x03\x01\x01");
     serve::penko(b"003/5.4 tare", b"\xB4\x03\x01\x01\x03\x02\x09");
@@ -321,9 +329,6 @@ fn cases_15() {
         b"003/5.5 zero",
         b"\xB4\x04\x01\x06\x01\x01\x01\x00\x00\x00\x00\x00",
     );
-}
-
-fn cases_16() {
     serve::penko(
         b"003/5.5 reset zero",
         b"\xB4\x04\x01\x06\x01\x01\x02\x00\x00\x00\x00\x00",

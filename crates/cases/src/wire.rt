@@ -31,6 +31,18 @@ pub(crate) fn datagram(name: &[u8], d: &[u8]) {
     show::line(name, number, frame::udp::datagram_data(d));
 }
 
+pub(crate) fn write_datagram(name: &[u8], payload: &[u8]) {
+    let mut out = [0u8; 260];
+    let written = frame::udp::write_datagram(payload, &mut out);
+    show::front(name, written.number, &out, written.len);
+}
+
+pub(crate) fn write_datagram_no_room(name: &[u8], payload: &[u8]) {
+    let mut out = [0u8; 259];
+    let written = frame::udp::write_datagram(payload, &mut out);
+    show::front(name, written.number, &out, written.len);
+}
+
 // One delivery to the stream reader, from the beginning.
 pub(crate) fn feed(name: &[u8], address: u8, bytes: &[u8]) {
     let mut state = [0u8; 261];
