@@ -438,12 +438,9 @@ def answers(call, args):
         return [(0 if live else 14, tree.cell_bytes())]
     if no_room or unsound:
         return [(8 if no_room else 1, b"")]
-    if base == "write_frame":
-        address, d = args
-        return [(size(d), frame(address, d) if size(d) == 0 else b"")]
-    if base == "write_datagram":
-        number = size(*args)
-        return [(number, b"" if number else bytes(4) + args[0])]
+    if base in ("write_frame", "write_datagram"):
+        number = size(args[-1])
+        return [(number, b"" if number else frame(*args) if base == "write_frame" else bytes(4) + args[0])]
     if base == "read_frame":
         return [string(*args)]
     if base == "datagram":
