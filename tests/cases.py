@@ -385,6 +385,14 @@ CASES = [
     ("post/1", "post_unsound", 1, 2150, 1),
     ("post/14 no cell", "post", 5, 1, 1),
     ("post/14 not live", "post", 2, 1, 1),
+    # House: cells restored, and a reading asked for by place.
+    ("restore/0", "restore", H("B403010101")),
+    ("restore/0 setting", "restore", H("B403010201")),
+    ("restore/1", "restore_unsound"),
+    ("reading/0", "reading", 0),
+    ("reading/0 setting", "reading", 2),
+    ("reading/12", "reading", 1),
+    ("reading/12 action", "reading", 4),
     # 003: the checksum of a sum of 1234h, and the examples of section 5.
     ("003/checksum", "write_frame", 0, b"\xFF" * 18 + b"\x46"),
     ("003/5.1", "penko", H("B400")),
@@ -436,6 +444,17 @@ def answers(call, args):
         if live:
             tree.cells[place] = [word if ready else tree.cells[place][0], ready]
         return [(0 if live else 14, tree.cell_bytes())]
+    if base == "restore":
+        if unsound:
+            return [(1, bytes(24))]
+        for p, cell in zip(tree.properties, tree.cells):
+            cell[1] = 0 if p[4] & 0x2000 else cell[1]
+        return [(0, tree.cell_bytes()), serve(tree, True, args[0])]
+    if base == "reading":
+        attribute = tree.properties[args[0]][4]
+        if not attribute & 1 or attribute & 0x2000 and not tree.cells[args[0]][1]:
+            return [(12, b"")]
+        return [(0, tree.cells[args[0]][0].to_bytes(4, "big"))]
     if no_room or unsound:
         return [(8 if no_room else 1, b"")]
     if base in ("write_frame", "write_datagram"):
@@ -495,7 +514,7 @@ def listed(before, items, after):
     return f"    {before}\n" + "".join(f"        {item},\n" for item in items) + f"    {after}\n"
 
 
-MODULE = {"data": "serve", "twice": "serve", "limits": "serve", "penko": "serve", "serial": "serve", "udp": "serve", "post": "serve"}
+SERVING = ("data", "twice", "limits", "penko", "serial", "udp", "post", "restore", "reading")
 
 PROGRAM = """\
 // The cases of documents 01 and 003, a line each (tests/cases.py writes this file, and works out what it must print).
@@ -519,7 +538,7 @@ fn long_string() -> [u8; 300] {
 
 def statement(name, call, args):
     base = call.removesuffix("_no_room").removesuffix("_unsound").removesuffix("_off")
-    module = MODULE.get(base, "wire")
+    module = "serve" if base in SERVING else "wire"
     values = [literal(a) for a in args]
     if base == "post":
         values[2] = "true" if args[2] else "false"

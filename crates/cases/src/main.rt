@@ -307,6 +307,16 @@ fn cases_15() {
     serve::post_unsound(b"post/1", 1, 2150, true);
     serve::post(b"post/14 no cell", 5, 1, true);
     serve::post(b"post/14 not live", 2, 1, true);
+    serve::restore(b"restore/0", b"\xB4\x03\x01\x01\x01");
+    serve::restore(b"restore/0 setting", b"\xB4\x03\x01\x02\x01");
+    serve::restore_unsound(b"restore/1");
+    serve::reading(b"reading/0", 0);
+}
+
+fn cases_16() {
+    serve::reading(b"reading/0 setting", 2);
+    serve::reading(b"reading/12", 1);
+    serve::reading(b"reading/12 action", 4);
     wire::write_frame(
         b"003/checksum",
         0,
@@ -315,10 +325,10 @@ fn cases_15() {
     serve::penko(b"003/5.1", b"\xB4\x00");
     serve::penko(b"003/5.2 totals", b"\xB4\x01\x01\x01\x0A");
     serve::penko(b"003/5.3 weigher", b"\xB4\x02\x01\x01\x03\x01\x01");
+    serve::penko(b"003/5.3 layout", b"\xB4\x02\x01\x03\x0A\x01\x01");
 }
 
-fn cases_16() {
-    serve::penko(b"003/5.3 layout", b"\xB4\x02\x01\x03\x0A\x01\x01");
+fn cases_17() {
     serve::penko(b"003/5.4 weight", b"\xB4\x03\x01\x01\x03\x01\x01");
     serve::penko(b"003/5.4 tare", b"\xB4\x03\x01\x01\x03\x02\x09");
     serve::penko(
@@ -361,4 +371,5 @@ fn main() {
     cases_14();
     cases_15();
     cases_16();
+    cases_17();
 }

@@ -1,6 +1,8 @@
 // Serving calls and postings, over the bench tree and two others.
 use super::show;
 use super::trees;
+use answer::NO_READING;
+use tree::Reading;
 use tree::bench;
 
 fn data_into(
@@ -131,4 +133,38 @@ pub(crate) fn post_unsound(name: &[u8], place: usize, word: u32, ready: bool) {
     let mut cells = [0u8; 24];
     let number = tree::cells::post(&tree, &mut cells, place, word, ready);
     show::line(name, number, &cells);
+}
+
+// Saved cells restored, and a request over them; the bytes are those of all cells, then the reply.
+pub(crate) fn restore(name: &[u8], request: &[u8]) {
+    let tree = bench::tree();
+    let mut cells = bench::cells();
+    let mut out = [0u8; 256];
+    let number = tree::cells::restore(&tree, &mut cells);
+    show::line(name, number, &cells);
+    data_into(name, &tree, &mut cells, true, request, &mut out);
+}
+
+pub(crate) fn restore_unsound(name: &[u8]) {
+    let tree = bench::tree();
+    let mut cells = [0u8; 24];
+    let number = tree::cells::restore(&tree, &mut cells);
+    show::line(name, number, &cells);
+}
+
+// A reading: 0 and the word, or row 12.
+pub(crate) fn reading(name: &[u8], place: usize) {
+    let tree = bench::tree();
+    let cells = bench::cells();
+    let Reading::Word(n) = tree::cells::reading(&tree, &cells, place) else {
+        show::line(name, NO_READING, b"");
+        return;
+    };
+    let word = [
+        (n / 16777216 % 256) as u8,
+        (n / 65536 % 256) as u8,
+        (n / 256 % 256) as u8,
+        (n % 256) as u8,
+    ];
+    show::line(name, 0, &word);
 }
