@@ -1,5 +1,5 @@
 //! Cells (docs/FORMATS.md): a word of four bytes and a mark for each property.
-use crate::tree::{Tree, LIVE};
+use crate::tree::{Property, Tree, LIVE, READ};
 use crate::*;
 
 pub const CELL_SIZE: usize = 5;
@@ -18,12 +18,21 @@ fn cell(cells: &[u8], place: usize) -> Option<&[u8]> {
     cells.chunks_exact(CELL_SIZE).nth(place)
 }
 
-pub fn word(cells: &[u8], place: usize) -> u32 {
+fn word(cells: &[u8], place: usize) -> u32 {
     cell(cells, place).map_or(0, |cell| u32::from_be_bytes([cell[0], cell[1], cell[2], cell[3]]))
 }
 
-pub fn is_ready(cells: &[u8], place: usize) -> bool {
+fn is_ready(cells: &[u8], place: usize) -> bool {
     cell(cells, place).is_some_and(|cell| cell[4] == 1)
+}
+
+/// The word of the property at a place: 12 where it has no read attribute, or is live and not ready.
+pub fn readable(property: &Property, cells: &[u8], place: usize) -> Result<u32, u8> {
+    let open = property.has(LIVE) && !is_ready(cells, place);
+    if !property.has(READ) || open {
+        return Err(NO_READING);
+    }
+    Ok(word(cells, place))
 }
 
 pub fn store(cells: &mut [u8], place: usize, word: u32) {
@@ -47,6 +56,26 @@ pub fn begin(tree: &[u8], cells: &mut [u8]) -> u8 {
         }
         _ => UNSOUND,
     }
+}
+
+/// Cells that were saved: no live property is ready, all else stays.
+pub fn restore(tree: &[u8], cells: &mut [u8]) -> u8 {
+    let Some(tree) = checked(tree, cells) else {
+        return UNSOUND;
+    };
+    for (property, cell) in tree.properties.iter().zip(cells.chunks_exact_mut(CELL_SIZE)) {
+        if property.has(LIVE) {
+            cell[4] = 0;
+        }
+    }
+    0
+}
+
+/// The firmware reads the property at a place: 1, 11 or 12.
+pub fn reading(tree: &[u8], cells: &[u8], place: usize) -> Result<u32, u8> {
+    let tree = checked(tree, cells).ok_or(UNSOUND)?;
+    let property = tree.properties.get(place).ok_or(BAD_PARAMETER)?;
+    readable(property, cells, place)
 }
 
 /// The converter posts to a live cell.

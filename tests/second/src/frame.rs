@@ -102,6 +102,17 @@ pub fn content(string: &[u8]) -> Result<Content, u8> {
     }
 }
 
+/// Copies the data of a whole serial string to the front of `out`; its length, or 8, 2 to 7.
+pub fn read_frame(address: u8, string: &[u8], out: &mut [u8]) -> Result<usize, u8> {
+    if out.len() < ROOM_DATA {
+        return Err(NO_ROOM);
+    }
+    let content = content(string)?;
+    let data = content.data(address)?;
+    out[..data.len()].copy_from_slice(data);
+    Ok(data.len())
+}
+
 /// The data within content of at most 258 bytes: 4, 6 or 7 where it is not good.
 pub fn judge(content: &[u8], address: u8) -> Result<&[u8], u8> {
     let [sent_to, data @ .., sum] = content else {
@@ -125,4 +136,10 @@ pub fn datagram_data(datagram: &[u8]) -> Result<&[u8], u8> {
     };
     check_length(data)?;
     Ok(data)
+}
+
+/// Where the data of a datagram begins in it, and its length: 2, 4 or 5.
+pub fn data_range(datagram: &[u8]) -> Result<(usize, usize), u8> {
+    let data = datagram_data(datagram)?;
+    Ok((datagram.len() - data.len(), data.len()))
 }

@@ -7,13 +7,16 @@ extern "C" {
         taken: *mut usize, len: *mut usize,
     ) -> u8;
     pub fn pq_check(tree: *const u8, tree_len: usize, cells: *const u8, cells_len: usize) -> u8;
+    pub fn pq_check_tree(tree: *const u8, tree_len: usize) -> u8;
     pub fn pq_cells_size(tree: *const u8, tree_len: usize) -> usize;
     pub fn pq_begin_cells(tree: *const u8, tree_len: usize, cells: *mut u8, cells_len: usize) -> u8;
+    pub fn pq_restore_cells(tree: *const u8, tree_len: usize, cells: *mut u8, cells_len: usize) -> u8;
     pub fn pq_post(
         tree: *const u8, tree_len: usize, cells: *mut u8, cells_len: usize, place: usize, word: u32, ready: u8,
     ) -> u8;
-    pub fn pq_word(cells: *const u8, cells_len: usize, place: usize) -> u32;
-    pub fn pq_is_ready(cells: *const u8, cells_len: usize, place: usize) -> u8;
+    pub fn pq_reading(
+        tree: *const u8, tree_len: usize, cells: *const u8, cells_len: usize, place: usize, word: *mut u32,
+    ) -> u8;
     pub fn pq_serve_data(
         tree: *const u8, tree_len: usize, cells: *mut u8, cells_len: usize, host: u8, request: *const u8, request_len: usize,
         out: *mut u8, out_len: usize, len: *mut usize, action: *mut u8,
@@ -28,12 +31,17 @@ extern "C" {
     ) -> u8;
     pub fn pq_frame(address: u8, data: *const u8, data_len: usize, out: *mut u8, out_len: usize, len: *mut usize) -> u8;
     pub fn pq_datagram(data: *const u8, data_len: usize, out: *mut u8, out_len: usize, len: *mut usize) -> u8;
+    pub fn pq_read_frame(
+        address: u8, string: *const u8, string_len: usize, out: *mut u8, out_len: usize, len: *mut usize,
+    ) -> u8;
+    pub fn pq_datagram_data(datagram: *const u8, datagram_len: usize, offset: *mut usize, len: *mut usize) -> u8;
     pub fn pq_read_serial(
-        address: u8, string: *const u8, string_len: usize, op: *mut u8, path: *mut u8, len: *mut usize, index: *mut u8,
+        address: u8, string: *const u8, string_len: usize, op: *mut u8, path: *mut u8, path_len: *mut usize, index: *mut u8,
         value: *mut u32,
     ) -> u8;
     pub fn pq_read_udp(
-        datagram: *const u8, datagram_len: usize, op: *mut u8, path: *mut u8, len: *mut usize, index: *mut u8, value: *mut u32,
+        datagram: *const u8, datagram_len: usize, op: *mut u8, path: *mut u8, path_len: *mut usize, index: *mut u8,
+        value: *mut u32,
     ) -> u8;
     pub fn pq_write_serial(
         address: u8, op: u8, path: *const u8, path_len: usize, index: u8, value: u32, out: *mut u8, out_len: usize,

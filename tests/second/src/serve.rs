@@ -1,7 +1,7 @@
 //! Requests answered ("Requests and replies", "Numbers returned").
 use crate::frame::{check_length, content, datagram_data, write_frame};
 use crate::request::{read_data, Request, COMMAND};
-use crate::tree::{Property, Tree, LIVE, READ, WRITE};
+use crate::tree::{Property, Tree, WRITE};
 use crate::writer::Writer;
 use crate::*;
 
@@ -100,14 +100,10 @@ impl Device<'_> {
     }
 
     fn read(&self, request: &Request, place: usize, writer: &mut Writer) -> Result<(), u8> {
-        let property = &self.tree.properties[place];
-        let open = property.has(LIVE) && !cells::is_ready(self.cells, place);
-        if !property.has(READ) || open {
-            return Err(NO_READING);
-        }
+        let word = cells::readable(&self.tree.properties[place], self.cells, place)?;
         head(request, writer);
         writer.byte(STATUS_OK);
-        writer.bytes(&cells::word(self.cells, place).to_be_bytes());
+        writer.bytes(&word.to_be_bytes());
         Ok(())
     }
 

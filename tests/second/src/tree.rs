@@ -172,6 +172,10 @@ fn read_property<'a>(record: &[u8], nodes: usize, texts: &mut Texts<'a>) -> Opti
     Some(property)
 }
 
+pub fn check(bytes: &[u8]) -> u8 {
+    u8::from(Tree::read(bytes).is_none())
+}
+
 impl<'a> Tree<'a> {
     /// The sound tree that lent bytes stand for, if any.
     pub fn read(bytes: &'a [u8]) -> Option<Tree<'a>> {

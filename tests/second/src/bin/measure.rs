@@ -8,6 +8,7 @@
 mod library;
 
 use library::*;
+use second::tree::Tree;
 use second::{bench, cells, frame, request, serve, stream};
 use std::hint::black_box;
 use std::time::{Duration, Instant};
@@ -27,10 +28,12 @@ enum Work {
     /// Bytes of a frame, fed so many at a time.
     Feed { bytes: Vec<u8>, block: usize, at: usize },
     ReadSerial { string: Vec<u8> },
+    ReadFrame { string: Vec<u8> },
     /// Data written by turns.
     Frame { data: Vec<Vec<u8>>, at: usize },
     Serve { tree: Vec<u8>, cells: Vec<u8>, request: Vec<u8> },
     Check { tree: Vec<u8>, cells: Vec<u8> },
+    Reading { tree: Vec<u8>, cells: Vec<u8>, place: usize },
 }
 
 /// Buffers that are lent over and over.
@@ -89,12 +92,14 @@ fn request_data(op: u8, path: &[u8], index: u8, value: u32) -> Vec<u8> {
     data
 }
 
-/// Each op on a tree, and the check of the tree.
+/// Each op on a tree, the firmware's reading of the same property, and the check of the tree.
 fn tree_rows(rows: &mut Vec<Row>, name: &str, tree: Vec<u8>, cells: Vec<u8>, path: &[u8], index: u8) {
     for op in 0..=5 {
         let request = request_data(op, path, index, 1);
         rows.push(row(&format!("op{op}-{name}"), 1, Work::Serve { tree: tree.clone(), cells: cells.clone(), request }));
     }
+    let place = Tree::read(&tree).and_then(|tree| tree.property(tree.node(path)?, index)).expect("a property");
+    rows.push(row(&format!("reading-{name}"), 1, Work::Reading { tree: tree.clone(), cells: cells.clone(), place }));
     rows.push(row(&format!("check-{name}"), 1, Work::Check { tree, cells }));
 }
 
@@ -106,7 +111,8 @@ fn rows() -> Vec<Row> {
         row("feed-alone", 1, Work::Feed { bytes: short, block: 1, at: 0 }),
         row("feed-block", len, Work::Feed { bytes: long.clone(), block: len, at: 0 }),
         row("read-request", 1, Work::ReadSerial { string: asked }),
-        row("read-256", 1, Work::ReadSerial { string: long }),
+        row("read-256", 1, Work::ReadSerial { string: long.clone() }),
+        row("read-frame", 1, Work::ReadFrame { string: long }),
         row("frame-20", 1, Work::Frame { data: vec![sample(20)], at: 0 }),
         row("frame-256", 1, Work::Frame { data: vec![sample(256)], at: 0 }),
         row("frame-varied", 1, Work::Frame { data: (1..=256).map(varied).collect(), at: 0 }),
@@ -131,6 +137,9 @@ fn library_once(work: &mut Work, desk: &mut Desk) -> u8 {
             Work::ReadSerial { string } => pq_read_serial(
                 ADDRESS, string.as_ptr(), string.len(), &mut short, path.as_mut_ptr(), &mut long, &mut other, &mut value,
             ),
+            Work::ReadFrame { string } => {
+                pq_read_frame(ADDRESS, string.as_ptr(), string.len(), out, out_len, &mut long)
+            }
             Work::Frame { data, at } => {
                 let data = next_data(data, at);
                 pq_frame(ADDRESS, data.as_ptr(), data.len(), out, out_len, &mut long)
@@ -143,6 +152,9 @@ fn library_once(work: &mut Work, desk: &mut Desk) -> u8 {
                 )
             }
             Work::Check { tree, cells } => pq_check(tree.as_ptr(), tree.len(), cells.as_ptr(), cells.len()),
+            Work::Reading { tree, cells, place } => {
+                pq_reading(tree.as_ptr(), tree.len(), cells.as_ptr(), cells.len(), *place, &mut value)
+            }
         }
     }
 }
@@ -155,11 +167,13 @@ fn second_once(work: &mut Work, desk: &mut Desk) -> u8 {
             black_box(stream::feed(&mut desk.state, ADDRESS, part, &mut desk.out)).number
         }
         Work::ReadSerial { string } => number(black_box(request::read_serial(ADDRESS, string))),
+        Work::ReadFrame { string } => number(black_box(frame::read_frame(ADDRESS, string, &mut desk.out))),
         Work::Frame { data, at } => number(black_box(frame::write_frame(ADDRESS, next_data(data, at), &mut desk.out))),
         Work::Serve { tree, cells, request } => {
             black_box(serve::serve_data(tree, cells, true, request, &mut desk.out)).number
         }
         Work::Check { tree, cells } => cells::check(tree, cells),
+        Work::Reading { tree, cells, place } => number(black_box(cells::reading(tree, cells, *place))),
     }
 }
 
@@ -222,13 +236,14 @@ fn best(row: &mut Row) -> [f64; 2] {
     best
 }
 
-/// Both must come to the same number, and to 0 where the row means a good request.
+/// Both must come to the same number, and to 0 where the row means a good request or reading.
 fn agree(row: &mut Row) -> bool {
     let ours = library_once(&mut row.work, &mut Desk::new());
     if let Work::Feed { at, .. } = &mut row.work {
         *at = 0;
     }
-    ours == second_once(&mut row.work, &mut Desk::new()) && (ours == 0 || !row.name.starts_with("op"))
+    let good = matches!(row.work, Work::Serve { .. } | Work::Reading { .. } | Work::ReadFrame { .. });
+    ours == second_once(&mut row.work, &mut Desk::new()) && (ours == 0 || !good)
 }
 
 fn main() {

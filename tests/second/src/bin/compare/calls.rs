@@ -3,9 +3,9 @@ use crate::input::{Call, Input, Lent, Seen};
 use crate::library::*;
 use second::request::Request;
 use second::serve::Served;
-use second::{cells, frame, request, serve, stream};
+use second::{cells, frame, request, serve, stream, tree};
 
-/// What numbers that are handed back hold before the call.
+/// What numbers that are handed back hold before the call: a word and the fields of a request hold it still after a refusal.
 const UNSET: u64 = 0xEEEE_EEEE_EEEE_EEEE;
 
 /// Numbers that a call hands back.
@@ -25,8 +25,12 @@ impl Back {
         request_fields(self.short[0], &self.path, self.long[0], self.short[1], self.value)
     }
 
+    fn word(&self) -> [u64; 5] {
+        one(self.value.into())
+    }
+
     fn served(&self) -> [u64; 5] {
-        [self.long[0] as u64, self.short[0].into(), 0, 0, 0]
+        two(self.long[0], self.short[0].into())
     }
 }
 
@@ -54,8 +58,9 @@ unsafe fn call(i: &Input, lent: &mut Lent, back: &mut Back) -> (u8, [u64; 5]) {
         Call::StateSize | Call::BeginStream | Call::Feed => call_stream(i, lent, back),
         Call::ServeData | Call::ServeSerial | Call::ServeUdp => call_serve(i, lent, back),
         Call::Frame | Call::Datagram | Call::WriteSerial | Call::WriteUdp => call_write(i, lent, back),
+        Call::ReadFrame | Call::DatagramData => call_data(i, lent, back),
         Call::ReadSerial | Call::ReadUdp => call_read(i, lent, back),
-        _ => call_cells(i, lent),
+        _ => call_cells(i, lent, back),
     }
 }
 
@@ -69,21 +74,25 @@ unsafe fn call_stream(i: &Input, lent: &mut Lent, back: &mut Back) -> (u8, [u64;
         Call::BeginStream => (pq_begin_stream(state, state_len), one(0)),
         _ => {
             let number = pq_feed(state, state_len, i.address, bytes, bytes_len, out, out_len, taken, len);
-            (number, [*taken as u64, *len as u64, 0, 0, 0])
+            (number, two(*taken, *len))
         }
     }
 }
 
-unsafe fn call_cells(i: &Input, lent: &mut Lent) -> (u8, [u64; 5]) {
+unsafe fn call_cells(i: &Input, lent: &mut Lent, back: &mut Back) -> (u8, [u64; 5]) {
     let (tree, tree_len) = lend(&mut lent.tree);
     let (cells, cells_len) = lend(&mut lent.cells);
     match i.call {
         Call::Check => (pq_check(tree, tree_len, cells, cells_len), one(0)),
+        Call::CheckTree => (pq_check_tree(tree, tree_len), one(0)),
         Call::CellsSize => (0, one(pq_cells_size(tree, tree_len) as u64)),
         Call::BeginCells => (pq_begin_cells(tree, tree_len, cells, cells_len), one(0)),
+        Call::RestoreCells => (pq_restore_cells(tree, tree_len, cells, cells_len), one(0)),
         Call::Post => (pq_post(tree, tree_len, cells, cells_len, i.place, i.value, i.ready), one(0)),
-        Call::Word => (0, one(pq_word(cells, cells_len, i.place).into())),
-        Call::IsReady => (0, one(pq_is_ready(cells, cells_len, i.place).into())),
+        Call::Reading => {
+            let number = pq_reading(tree, tree_len, cells, cells_len, i.place, &mut back.value);
+            (number, back.word())
+        }
         _ => unreachable!("{:?} is another group's", i.call),
     }
 }
@@ -121,14 +130,24 @@ unsafe fn call_write(i: &Input, lent: &mut Lent, back: &mut Back) -> (u8, [u64; 
     (number, one(*len as u64))
 }
 
+unsafe fn call_data(i: &Input, lent: &mut Lent, back: &mut Back) -> (u8, [u64; 5]) {
+    let (bytes, bytes_len) = lend(&mut lent.bytes);
+    let (out, out_len) = lend(&mut lent.out);
+    let [offset, len] = &mut back.long;
+    if i.call == Call::ReadFrame {
+        return (pq_read_frame(i.address, bytes, bytes_len, out, out_len, len), one(*len as u64));
+    }
+    (pq_datagram_data(bytes, bytes_len, offset, len), two(*offset, *len))
+}
+
 unsafe fn call_read(i: &Input, lent: &mut Lent, back: &mut Back) -> (u8, [u64; 5]) {
     let (bytes, bytes_len) = lend(&mut lent.bytes);
     let path = back.path.as_mut_ptr();
     let [op, index] = &mut back.short;
-    let (len, value) = (&mut back.long[0], &mut back.value);
+    let (path_len, value) = (&mut back.long[0], &mut back.value);
     let number = match i.call {
-        Call::ReadSerial => pq_read_serial(i.address, bytes, bytes_len, op, path, len, index, value),
-        _ => pq_read_udp(bytes, bytes_len, op, path, len, index, value),
+        Call::ReadSerial => pq_read_serial(i.address, bytes, bytes_len, op, path, path_len, index, value),
+        _ => pq_read_udp(bytes, bytes_len, op, path, path_len, index, value),
     };
     (number, back.request())
 }
@@ -144,33 +163,51 @@ fn one(field: u64) -> [u64; 5] {
     [field, 0, 0, 0, 0]
 }
 
+fn two(field: usize, other: usize) -> [u64; 5] {
+    [field as u64, other as u64, 0, 0, 0]
+}
+
 fn answer(i: &Input, lent: &mut Lent) -> (u8, [u64; 5]) {
-    let host = i.host != 0;
     match i.call {
         Call::StateSize => (0, one(stream::STATE_SIZE as u64)),
         Call::BeginStream => (stream::begin(&mut lent.state), one(0)),
         Call::Feed => feed(i, lent),
-        Call::Check => (cells::check(&lent.tree, &lent.cells), one(0)),
-        Call::CellsSize => (0, one(cells::size(&lent.tree) as u64)),
-        Call::BeginCells => (cells::begin(&lent.tree, &mut lent.cells), one(0)),
-        Call::Post => (cells::post(&lent.tree, &mut lent.cells, i.place, i.value, i.ready != 0), one(0)),
-        Call::Word => (0, one(cells::word(&lent.cells, i.place).into())),
-        Call::IsReady => (0, one(cells::is_ready(&lent.cells, i.place).into())),
-        Call::ServeData => {
-            served(serve::serve_data(&lent.tree, &mut lent.cells, host, &lent.bytes, &mut lent.out))
-        }
-        Call::ServeSerial => {
-            served(serve::serve_serial(&lent.tree, &mut lent.cells, host, i.address, &lent.bytes, &mut lent.out))
-        }
-        Call::ServeUdp => served(serve::serve_udp(&lent.tree, &mut lent.cells, host, &lent.bytes, &mut lent.out)),
+        Call::ServeData | Call::ServeSerial | Call::ServeUdp => served(serve(i, lent)),
         Call::Frame => written(frame::write_frame(i.address, &lent.bytes, &mut lent.out)),
         Call::Datagram => written(frame::write_datagram(&lent.bytes, &mut lent.out)),
+        Call::ReadFrame => written(frame::read_frame(i.address, &lent.bytes, &mut lent.out)),
+        Call::DatagramData => found(frame::data_range(&lent.bytes)),
         Call::ReadSerial => read(request::read_serial(i.address, &lent.bytes)),
         Call::ReadUdp => read(request::read_udp(&lent.bytes)),
         Call::WriteSerial => {
             written(request::write_serial(i.address, i.op, &lent.bytes, i.index, i.value, &mut lent.out))
         }
         Call::WriteUdp => written(request::write_udp(i.op, &lent.bytes, i.index, i.value, &mut lent.out)),
+        _ => answer_cells(i, lent),
+    }
+}
+
+fn answer_cells(i: &Input, lent: &mut Lent) -> (u8, [u64; 5]) {
+    match i.call {
+        Call::Check => (cells::check(&lent.tree, &lent.cells), one(0)),
+        Call::CheckTree => (tree::check(&lent.tree), one(0)),
+        Call::CellsSize => (0, one(cells::size(&lent.tree) as u64)),
+        Call::BeginCells => (cells::begin(&lent.tree, &mut lent.cells), one(0)),
+        Call::RestoreCells => (cells::restore(&lent.tree, &mut lent.cells), one(0)),
+        Call::Post => (cells::post(&lent.tree, &mut lent.cells, i.place, i.value, i.ready != 0), one(0)),
+        Call::Reading => looked(cells::reading(&lent.tree, &lent.cells, i.place)),
+        _ => unreachable!("{:?} is another group's", i.call),
+    }
+}
+
+fn serve(i: &Input, lent: &mut Lent) -> Served {
+    let host = i.host != 0;
+    match i.call {
+        Call::ServeData => serve::serve_data(&lent.tree, &mut lent.cells, host, &lent.bytes, &mut lent.out),
+        Call::ServeSerial => {
+            serve::serve_serial(&lent.tree, &mut lent.cells, host, i.address, &lent.bytes, &mut lent.out)
+        }
+        _ => serve::serve_udp(&lent.tree, &mut lent.cells, host, &lent.bytes, &mut lent.out),
     }
 }
 
@@ -180,11 +217,11 @@ fn feed(i: &Input, lent: &mut Lent) -> (u8, [u64; 5]) {
     let slow = stream::feed_plain(&mut plain.state, i.address, &plain.bytes, &mut plain.out);
     let fed = stream::feed(&mut lent.state, i.address, &lent.bytes, &mut lent.out);
     assert!(slow == fed && plain == *lent, "the two readers differ: {}", i.show());
-    (fed.number, [fed.taken as u64, fed.len as u64, 0, 0, 0])
+    (fed.number, two(fed.taken, fed.len))
 }
 
 fn served(served: Served) -> (u8, [u64; 5]) {
-    (served.number, [served.len as u64, served.action.into(), 0, 0, 0])
+    (served.number, two(served.len, served.action.into()))
 }
 
 fn written(result: Result<usize, u8>) -> (u8, [u64; 5]) {
@@ -194,12 +231,26 @@ fn written(result: Result<usize, u8>) -> (u8, [u64; 5]) {
     }
 }
 
+fn found(result: Result<(usize, usize), u8>) -> (u8, [u64; 5]) {
+    match result {
+        Ok((offset, len)) => (0, two(offset, len)),
+        Err(number) => (number, two(0, 0)),
+    }
+}
+
+fn looked(result: Result<u32, u8>) -> (u8, [u64; 5]) {
+    match result {
+        Ok(word) => (0, one(word.into())),
+        Err(number) => (number, Back::new().word()),
+    }
+}
+
 fn read(result: Result<Request, u8>) -> (u8, [u64; 5]) {
-    let (number, request) = match result {
-        Ok(request) => (0, request),
-        Err(number) => (number, Request::default()),
-    };
-    let fields =
-        request_fields(request.op, request.whole_path(), request.path().len(), request.index, request.value);
-    (number, fields)
+    match result {
+        Ok(request) => {
+            let (path, len) = (request.whole_path(), request.path().len());
+            (0, request_fields(request.op, path, len, request.index, request.value))
+        }
+        Err(number) => (number, Back::new().request()),
+    }
 }

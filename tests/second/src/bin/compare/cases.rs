@@ -48,9 +48,20 @@ const STRINGS: [(&str, u8); 8] = [
     ("10 02 00 B4 00 4B 10 03 10 03", 3),
 ];
 
+/// The readings of the bench tree's properties where each case starts, and after a restart: the number, and the word with 0.
+const READINGS: [[(u8, u32); 2]; 6] = [
+    [(0, 2100), (12, 0)],
+    [(12, 0), (12, 0)],
+    [(0, 4), (0, 4)],
+    [(0, 0), (0, 0)],
+    [(12, 0), (12, 0)],
+    [(11, 0), (11, 0)],
+];
+
 pub fn run(tally: &mut Tally) {
     tally.compare(&Input::of(Call::StateSize));
     serve_all(tally);
+    read_all(tally);
     for (address, data, frame) in FRAMED {
         let (data, frame) = (bytes(data), bytes(frame));
         let input = Input { address, bytes: &data, room: 520, ..Input::of(Call::Frame) };
@@ -60,8 +71,24 @@ pub fn run(tally: &mut Tally) {
     for (string, number) in STRINGS {
         let string = bytes(string);
         let input = Input { bytes: &string, ..Input::of(Call::ReadSerial) };
-        let seen = tally.compare(&input);
-        tally.expect(seen.number == number, "the number is the paper's", &input);
+        for input in [input, Input { call: Call::ReadFrame, room: 256, ..input }] {
+            let seen = tally.compare(&input);
+            tally.expect(seen.number == number, "the number is the paper's", &input);
+        }
+    }
+}
+
+fn read_all(tally: &mut Tally) {
+    let tree = second::bench::tree().write();
+    let start = Input { tree: &tree, cells: &second::bench::CELLS, ..Input::of(Call::RestoreCells) };
+    let restored = tally.compare(&start).lent.cells;
+    for (place, readings) in READINGS.into_iter().enumerate() {
+        for ((number, word), cells) in readings.into_iter().zip([start.cells, &restored]) {
+            let input = Input { call: Call::Reading, cells, place, ..start };
+            let seen = tally.compare(&input);
+            let same = seen.number == number && (number != 0 || seen.fields[0] == u64::from(word));
+            tally.expect(same, "the reading is the paper's", &input);
+        }
     }
 }
 

@@ -87,7 +87,7 @@ impl DraftProperty {
         }
     }
 
-    fn enumerated(&mut self, max: u32, texts: Vec<u8>) {
+    pub fn enumerated(&mut self, max: u32, texts: Vec<u8>) {
         (self.kind, self.min, self.max, self.texts) = (2, 0, max, texts);
     }
 
@@ -250,20 +250,38 @@ pub const BREAKS: [Break; 33] = {
     ]
 };
 
+impl Break {
+    /// Whether the cells break this rule, and the tree is sound.
+    pub fn is_of_cells(self) -> bool {
+        matches!(self, Break::CellShort | Break::CellMore | Break::CellPart | Break::Mark)
+    }
+}
+
 /// A tree that breaks one rule, with cells that would fit it; or a sound one with cells that do not.
 pub fn broken(random: &Random, draft: &Draft, rule: Break) -> (Vec<u8>, Vec<u8>) {
     let mut draft = draft.clone();
     if draft.properties.is_empty() {
         draft.properties.push(DraftProperty::draw(random, draft.nodes.len()));
     }
-    break_nodes(random, &mut draft, rule);
+    let (node, place) = (random.below(draft.nodes.len()), random.below(draft.properties.len()));
+    broken_at(random, draft, rule, node, place)
+}
+
+/// Breaks a rule at a node, at a property or at its cell, where the rule speaks of one.
+pub fn broken_at(random: &Random, mut draft: Draft, rule: Break, node: usize, place: usize) -> (Vec<u8>, Vec<u8>) {
+    break_nodes(random, &mut draft, node, rule);
     let nodes = draft.nodes.len();
-    let place = random.below(draft.properties.len());
     break_numbers(random, &mut draft.properties[place], nodes, rule);
     break_texts(random, &mut draft.properties[place], rule);
     let mut cells = draft.cells(random);
     let mut tree = draft.form();
-    break_form(random, &draft, &mut tree, rule);
+    match rule {
+        Break::NamePlace => nudge(random, &mut tree, 2 + 3 * node + 1),
+        Break::LabelPlace => nudge(random, &mut tree, 2 + 3 * nodes + 16 * place + 14),
+        Break::Mark => cells[5 * place + 4] = random.pick(&[2, 3, 255, 0x10]),
+        _ => {}
+    }
+    break_form(random, &mut tree, rule);
     break_cells(random, &mut cells, rule);
     (tree, cells)
 }
@@ -278,9 +296,7 @@ fn bad_character(random: &Random, text: &mut Vec<u8>) {
     }
 }
 
-fn break_nodes(random: &Random, draft: &mut Draft, rule: Break) {
-    let count = draft.nodes.len();
-    let place = random.below(count);
+fn break_nodes(random: &Random, draft: &mut Draft, place: usize, rule: Break) {
     match rule {
         Break::NoNode => draft.nodes.clear(),
         Break::ManyNodes => draft.nodes.resize(random.between(65, 70), (0, b"n".to_vec())),
@@ -289,30 +305,27 @@ fn break_nodes(random: &Random, draft: &mut Draft, rule: Break) {
             draft.properties.resize(random.between(129, 132), last);
         }
         Break::DeviceParent => draft.nodes[0].0 = random.pick(&[1, 2, 255]),
-        Break::LateParent => break_parent(random, draft),
-        Break::Deep => {
-            draft.nodes.truncate(47);
-            draft.properties.truncate(1);
-            draft.properties[0].node = 0;
-            draft.nodes.push((0, b"2".to_vec()));
-            for _ in 3..=17 {
-                draft.nodes.push((draft.nodes.len() as u8 - 1, b"d".to_vec()));
-            }
-        }
+        Break::LateParent => break_parent(random, draft, place.max(1)),
+        Break::Deep => break_depth(draft, place.max(16)),
         Break::NameCharacter => bad_character(random, &mut draft.nodes[place].1),
         Break::LongName => draft.nodes[place].1 = vec![b'n'; random.between(24, 30)],
         _ => {}
     }
 }
 
-fn break_parent(random: &Random, draft: &mut Draft) {
-    let count = draft.nodes.len();
-    if count < 2 {
-        draft.nodes.push((1, Vec::new()));
-        return;
-    }
-    let place = random.between(1, count - 1);
+fn break_parent(random: &Random, draft: &mut Draft, place: usize) {
+    let count = draft.nodes.len().max(place + 1);
+    draft.nodes.resize(count, (0, Vec::new()));
     draft.nodes[place].0 = random.pick(&[place, place + 1, count, 255]) as u8;
+}
+
+/// Hangs the sixteen nodes up to a place below one another, the first below the device: the last is at depth 17.
+fn break_depth(draft: &mut Draft, place: usize) {
+    draft.nodes.resize(draft.nodes.len().max(place + 1), (0, b"d".to_vec()));
+    draft.nodes[place - 15].0 = 0;
+    for below in place - 14..=place {
+        draft.nodes[below].0 = below as u8 - 1;
+    }
 }
 
 fn break_numbers(random: &Random, property: &mut DraftProperty, nodes: usize, rule: Break) {
@@ -361,13 +374,10 @@ fn break_texts(random: &Random, property: &mut DraftProperty, rule: Break) {
     }
 }
 
-fn break_form(random: &Random, draft: &Draft, tree: &mut Vec<u8>, rule: Break) {
-    let nodes = draft.nodes.len();
+fn break_form(random: &Random, tree: &mut Vec<u8>, rule: Break) {
     match rule {
         Break::PastForm => tree.extend(random.pick(&[&[0][..], &[0x41, 0], &[0xFF], &[0; 40]])),
         Break::CutForm => tree.truncate(random.pick(&[tree.len() - 1, random.below(tree.len())])),
-        Break::NamePlace => nudge(random, tree, 2 + 3 * random.below(nodes) + 1),
-        Break::LabelPlace => nudge(random, tree, 2 + 3 * nodes + 16 * random.below(draft.properties.len()) + 14),
         Break::Counts => {
             let at = random.below(2);
             tree[at] = random.pick(&[tree[at] + 1, tree[at] - 1, 255, 65 + 64 * at as u8]);
@@ -389,10 +399,6 @@ fn break_cells(random: &Random, cells: &mut Vec<u8>, rule: Break) {
         Break::CellShort => cells.truncate(cells.len() - 5),
         Break::CellMore => cells.extend([0; 5]),
         Break::CellPart => cells.truncate(cells.len() - random.between(1, 4)),
-        Break::Mark => {
-            let at = 5 * random.below(cells.len() / 5) + 4;
-            cells[at] = random.pick(&[2, 3, 255, 0x10]);
-        }
         _ => {}
     }
 }

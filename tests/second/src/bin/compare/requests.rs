@@ -30,8 +30,10 @@ fn read(random: &Random, tally: &mut Tally, draft: &Draft) {
     let address = address(random);
     let string = draw(random, draft, Road::Serial, address);
     tally.compare(&Input { bytes: &string, address, ..Input::of(Call::ReadSerial) });
+    tally.compare(&Input { bytes: &string, address, room: random.room(256), ..Input::of(Call::ReadFrame) });
     let datagram = draw(random, draft, Road::Udp, address);
     tally.compare(&Input { bytes: &datagram, ..Input::of(Call::ReadUdp) });
+    tally.compare(&Input { bytes: &datagram, ..Input::of(Call::DatagramData) });
 }
 
 /// A request to be written out, mostly one that the table allows.

@@ -25,6 +25,11 @@ fn serving<'a>(call: Call, tree: &'a [u8], bytes: &'a [u8]) -> Input<'a> {
     Input { tree, cells: &bench::CELLS, bytes, host: 1, address: ADDRESS, room: 520, ..Input::of(call) }
 }
 
+/// A whole string, read by a box of this address.
+fn whole(bytes: &[u8]) -> Input<'_> {
+    Input { bytes, address: ADDRESS, room: 256, ..Input::of(Call::ReadFrame) }
+}
+
 /// All data of one byte, and of two of which the first is not 0; host functions on and off.
 fn short_data(tally: &mut Tally, tree: &[u8]) {
     for number in 0..=0xFFFF_u16 {
@@ -46,6 +51,7 @@ fn rooms(tally: &mut Tally, tree: &[u8]) {
         tally.compare(&Input { room, ..serving(Call::ServeSerial, tree, &string) });
         tally.compare(&Input { room, ..serving(Call::ServeUdp, tree, &datagram) });
         tally.compare(&Input { room, state: &state, bytes: &string, address: ADDRESS, ..Input::of(Call::Feed) });
+        tally.compare(&Input { room, bytes: &string, address: ADDRESS, ..Input::of(Call::ReadFrame) });
         for call in [Call::Frame, Call::Datagram, Call::WriteSerial, Call::WriteUdp] {
             tally.compare(&Input { room, bytes: &[1], op: 2, index: 1, address: ADDRESS, ..Input::of(call) });
         }
@@ -68,6 +74,8 @@ fn lengths(tally: &mut Tally, tree: &[u8]) {
             tally.compare(&serving(Call::ServeUdp, tree, &datagram));
             let state = [0; STATE_SIZE];
             tally.compare(&Input { state: &state, bytes: &string, address: ADDRESS, room: 256, ..Input::of(Call::Feed) });
+            tally.compare(&whole(&string));
+            tally.compare(&Input { bytes: &datagram, ..Input::of(Call::DatagramData) });
         }
     }
 }
@@ -79,6 +87,7 @@ fn addresses(tally: &mut Tally) {
         tally.compare(&Input { bytes: &[0xB4, 0x00], address, room: 520, ..Input::of(Call::Frame) });
         for own in 0..=255 {
             tally.compare(&Input { bytes: &string, address: own, ..Input::of(Call::ReadSerial) });
+            tally.compare(&Input { address: own, ..whole(&string) });
         }
     }
 }
@@ -90,15 +99,17 @@ fn strings_changed(tally: &mut Tally, tree: &[u8]) {
     each_change(&string, |bytes| {
         tally.compare(&serving(Call::ServeSerial, tree, bytes));
         tally.compare(&Input { bytes, address: ADDRESS, ..Input::of(Call::ReadSerial) });
+        tally.compare(&whole(bytes));
     });
     each_change(&datagram, |bytes| {
         tally.compare(&serving(Call::ServeUdp, tree, bytes));
         tally.compare(&Input { bytes, ..Input::of(Call::ReadUdp) });
+        tally.compare(&Input { bytes, ..Input::of(Call::DatagramData) });
     });
     each_change(&WRITE, |bytes| drop(tally.compare(&serving(Call::ServeData, tree, bytes))));
 }
 
-fn each_change(bytes: &[u8], mut give: impl FnMut(&[u8])) {
+pub fn each_change(bytes: &[u8], mut give: impl FnMut(&[u8])) {
     for at in 0..bytes.len() {
         let mut changed = bytes.to_vec();
         for byte in 0..=255 {
@@ -111,12 +122,22 @@ fn each_change(bytes: &[u8], mut give: impl FnMut(&[u8])) {
 /// The bench tree and its cells, each byte changed to each other.
 fn trees_changed(tally: &mut Tally, tree: &[u8]) {
     each_change(tree, |changed| {
-        tally.compare(&Input { tree: changed, cells: &bench::CELLS, ..Input::of(Call::Check) });
+        let input = Input { tree: changed, cells: &bench::CELLS, ..Input::of(Call::Check) };
+        for call in [Call::Check, Call::CheckTree, Call::RestoreCells] {
+            tally.compare(&Input { call, ..input });
+        }
+        for place in 0..=5 {
+            tally.compare(&Input { call: Call::Reading, place, ..input });
+        }
         tally.compare(&serving(Call::ServeData, changed, &[0xB4, 0x02, 0x01, 0x02, 0x02]));
         tally.compare(&serving(Call::ServeData, changed, &WRITE));
     });
     each_change(&bench::CELLS, |cells| {
         tally.compare(&Input { tree, cells, ..Input::of(Call::Check) });
+        tally.compare(&Input { tree, cells, ..Input::of(Call::RestoreCells) });
+        for place in 0..=5 {
+            tally.compare(&Input { tree, cells, place, ..Input::of(Call::Reading) });
+        }
         tally.compare(&Input { cells, ..serving(Call::ServeData, tree, &[0xB4, 0x03, 0x01, 0x01, 0x01]) });
         tally.compare(&Input { tree, cells, place: 1, value: 0x1234_5678, ready: 1, ..Input::of(Call::Post) });
     });
@@ -150,6 +171,7 @@ fn short_strings(tally: &mut Tally) {
                 number /= 4;
             }
             tally.compare(&Input { bytes: &bytes, address: 0x10, ..Input::of(Call::ReadSerial) });
+            tally.compare(&whole(&bytes));
             tally.compare(&Input { state: &state, bytes: &bytes, address: 0x10, room: 256, ..Input::of(Call::Feed) });
         }
     }

@@ -1,4 +1,4 @@
-//! Trees and cells: checked, posted to, and requests served over them.
+//! Trees and cells: checked, posted to, read, restored, and requests served over them.
 use crate::draft::{broken, Draft, BREAKS};
 use crate::input::{Call, Input};
 use crate::random::Random;
@@ -11,7 +11,7 @@ pub fn run(random: &Random, tally: &mut Tally, round: usize) {
     let draft = Draft::draw(random);
     let tree = draft.form();
     let mut cells = draft.cells(random);
-    check(tally, &tree, &cells, Some(0));
+    check(tally, &tree, &cells, Some([0, 0]));
     begin(random, tally, &tree, draft.properties.len());
     let few = tree.len() > 10_000;
     for _ in 0..if few { SERVED / 6 } else { SERVED } {
@@ -19,17 +19,18 @@ pub fn run(random: &Random, tally: &mut Tally, round: usize) {
     }
     for _ in 0..10 {
         post(random, tally, &draft, &tree, &mut cells);
-        look(random, tally, &cells);
+        read(random, tally, &draft, &tree, &cells);
     }
+    restore(random, tally, &draft, &tree, &cells);
     break_one(random, tally, &draft, round);
     change(random, tally, &draft);
 }
 
-/// The three calls that look at a tree as a whole, and the number that the check must give.
-fn check(tally: &mut Tally, tree: &[u8], cells: &[u8], number: Option<u8>) {
-    let input = Input { tree, cells, ..Input::of(Call::Check) };
-    let seen = tally.compare(&input);
-    tally.expect(number.is_none_or(|number| seen.number == number), "the check gives the number meant", &input);
+/// The calls that look at a tree as a whole, and the numbers that the check of tree and cells and that of the tree must give.
+pub fn check(tally: &mut Tally, tree: &[u8], cells: &[u8], numbers: Option<[u8; 2]>) {
+    let inputs = [Input { tree, cells, ..Input::of(Call::Check) }, Input { tree, ..Input::of(Call::CheckTree) }];
+    let seen = inputs.each_ref().map(|input| tally.compare(input).number);
+    tally.expect(numbers.is_none_or(|numbers| numbers == seen), "the checks give the numbers meant", &inputs[0]);
     tally.compare(&Input { tree, ..Input::of(Call::CellsSize) });
 }
 
@@ -77,19 +78,24 @@ fn place(random: &Random, count: usize) -> usize {
     }
 }
 
-/// The firmware's own look at a cell.
-fn look(random: &Random, tally: &mut Tally, cells: &[u8]) {
-    let place = place(random, cells.len() / 5);
-    for call in [Call::Word, Call::IsReady] {
-        tally.compare(&Input { cells, place, ..Input::of(call) });
-    }
+/// The firmware's own reading, at any kind of place.
+fn read(random: &Random, tally: &mut Tally, draft: &Draft, tree: &[u8], cells: &[u8]) {
+    let place = place(random, draft.properties.len());
+    tally.compare(&Input { tree, cells, place, ..Input::of(Call::Reading) });
+}
+
+/// Cells lent again after a restart, and a reading from them.
+fn restore(random: &Random, tally: &mut Tally, draft: &Draft, tree: &[u8], cells: &[u8]) {
+    let seen = tally.compare(&Input { tree, cells, ..Input::of(Call::RestoreCells) });
+    read(random, tally, draft, tree, &seen.lent.cells);
 }
 
 /// Breaks one rule, each in its turn, and gives the tree to every call that checks it.
 fn break_one(random: &Random, tally: &mut Tally, draft: &Draft, round: usize) {
     for turn in 0..4 {
-        let (tree, cells) = broken(random, draft, BREAKS[(4 * round + turn) % BREAKS.len()]);
-        check(tally, &tree, &cells, Some(1));
+        let rule = BREAKS[(4 * round + turn) % BREAKS.len()];
+        let (tree, cells) = broken(random, draft, rule);
+        check(tally, &tree, &cells, Some([1, u8::from(!rule.is_of_cells())]));
         give_all(random, tally, draft, &tree, &cells);
     }
 }
@@ -118,7 +124,8 @@ fn change(random: &Random, tally: &mut Tally, draft: &Draft) {
 
 fn give_all(random: &Random, tally: &mut Tally, draft: &Draft, tree: &[u8], cells: &[u8]) {
     tally.compare(&Input { tree, cells, ..Input::of(Call::BeginCells) });
-    look(random, tally, cells);
+    read(random, tally, draft, tree, cells);
+    restore(random, tally, draft, tree, cells);
     post(random, tally, draft, tree, &mut cells.to_vec());
     serve(random, tally, draft, tree, &mut cells.to_vec());
     serve(random, tally, draft, tree, &mut cells.to_vec());
