@@ -5,6 +5,7 @@ mod calls;
 mod cases;
 mod draft;
 mod input;
+mod largest;
 #[path = "../../library.rs"]
 mod library;
 mod random;
@@ -30,6 +31,7 @@ fn main() {
     cases::run(&mut tally);
     if times >= 1.0 {
         sweep::run(&mut tally);
+        largest::run(&random, &mut tally);
     }
     for round in 0..(ROUNDS * times) as usize {
         trees::run(&random, &mut tally, round);
