@@ -58,15 +58,24 @@ const READINGS: [[(u8, u32); 2]; 6] = [
     [(11, 0), (11, 0)],
 ];
 
+/// Datagrams, the number, and where the data stands: its offset and length.
+const DATAGRAMS: [(&str, u8, [u64; 2]); 4] =
+    [("00000000 B4 00", 0, [4, 2]), ("00000000", 4, [0, 0]), ("000000", 2, [0, 0]), ("00000100 B4 00", 2, [0, 0])];
+
 pub fn run(tally: &mut Tally) {
     tally.compare(&Input::of(Call::StateSize));
     serve_all(tally);
     read_all(tally);
+    find_all(tally);
     for (address, data, frame) in FRAMED {
         let (data, frame) = (bytes(data), bytes(frame));
         let input = Input { address, bytes: &data, room: 520, ..Input::of(Call::Frame) };
         let seen = tally.compare(&input);
         tally.expect(seen.number == 0 && seen.lent.out[..frame.len()] == frame, "the frame is the paper's", &input);
+        let input = Input { address, bytes: &frame, room: 256, ..Input::of(Call::ReadFrame) };
+        let seen = tally.compare(&input);
+        let same = seen.number == 0 && seen.fields[0] == data.len() as u64 && seen.lent.out[..data.len()] == data;
+        tally.expect(same, "the data is the paper's", &input);
     }
     for (string, number) in STRINGS {
         let string = bytes(string);
@@ -75,6 +84,15 @@ pub fn run(tally: &mut Tally) {
             let seen = tally.compare(&input);
             tally.expect(seen.number == number, "the number is the paper's", &input);
         }
+    }
+}
+
+fn find_all(tally: &mut Tally) {
+    for (datagram, number, found) in DATAGRAMS {
+        let datagram = bytes(datagram);
+        let input = Input { bytes: &datagram, ..Input::of(Call::DatagramData) };
+        let seen = tally.compare(&input);
+        tally.expect(seen.number == number && seen.fields[..2] == found, "the data stands where the paper says", &input);
     }
 }
 

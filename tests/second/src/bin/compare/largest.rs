@@ -78,8 +78,12 @@ fn cells(mark: u8, last: u8) -> Vec<u8> {
     cells
 }
 
-/// Places of properties: the first, the last, and those that there are not.
-const PLACES: [usize; 11] = [0, 1, 63, 64, 126, 127, 128, 129, 255, usize::MAX, usize::MAX / 5 + 1];
+/// Places of properties: the first and the last ones, and those that there are not, some of which are the last where high bits
+/// are lost, also of five times or sixteen times the place.
+const PLACES: [usize; 15] = [
+    0, 1, 63, 64, LAST - 1, LAST, LAST + 1, LAST + 2, 255, 256 + LAST, (1 << 16) + LAST, (1 << 32) + LAST, (1 << 60) + LAST,
+    usize::MAX, usize::MAX / 5 + 1,
+];
 
 pub fn run(random: &Random, tally: &mut Tally) {
     for shape in SHAPES {
@@ -151,13 +155,14 @@ fn ask_all(tally: &mut Tally, draft: &Draft, tree: &[u8]) {
     }
 }
 
-/// One request by all three roads.
+/// One request by all three roads, where the last property alone is ready and where it alone is not.
 fn ask(tally: &mut Tally, tree: &[u8], data: &[u8]) {
     let string = wrapped(&content(ADDRESS, data));
     let datagram = [&[0; 4], data].concat();
-    for (call, bytes) in [(Call::ServeData, data), (Call::ServeSerial, &string), (Call::ServeUdp, &datagram)] {
-        let cells = cells(1, 1);
-        tally.compare(&Input { tree, cells: &cells, bytes, host: 1, address: ADDRESS, room: 520, ..Input::of(call) });
+    for cells in [cells(0, 1), cells(1, 0)] {
+        for (call, bytes) in [(Call::ServeData, data), (Call::ServeSerial, &string), (Call::ServeUdp, &datagram)] {
+            tally.compare(&Input { tree, cells: &cells, bytes, host: 1, address: ADDRESS, room: 520, ..Input::of(call) });
+        }
     }
 }
 
@@ -172,10 +177,13 @@ fn break_all(random: &Random, tally: &mut Tally, draft: &Draft, places: Range<us
     }
 }
 
-/// The calls that go to the last property.
+/// The calls that go to all cells, to the last one or to the one beyond.
 fn give(tally: &mut Tally, tree: &[u8], cells: &[u8]) {
-    for call in [Call::BeginCells, Call::RestoreCells, Call::Reading, Call::Post] {
-        tally.compare(&Input { tree, cells, place: LAST, value: 0x1234_5678, ready: 1, ..Input::of(call) });
+    for call in [Call::BeginCells, Call::RestoreCells] {
+        tally.compare(&Input { tree, cells, ..Input::of(call) });
+    }
+    for (call, place) in [(Call::Reading, LAST), (Call::Reading, LAST + 1), (Call::Post, LAST), (Call::Post, LAST + 1)] {
+        tally.compare(&Input { tree, cells, place, value: 0x1234_5678, ready: 1, ..Input::of(call) });
     }
 }
 

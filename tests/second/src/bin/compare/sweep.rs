@@ -99,7 +99,9 @@ fn strings_changed(tally: &mut Tally, tree: &[u8]) {
     each_change(&string, |bytes| {
         tally.compare(&serving(Call::ServeSerial, tree, bytes));
         tally.compare(&Input { bytes, address: ADDRESS, ..Input::of(Call::ReadSerial) });
-        tally.compare(&whole(bytes));
+        for room in [255, 256] {
+            tally.compare(&Input { room, ..whole(bytes) });
+        }
     });
     each_change(&datagram, |bytes| {
         tally.compare(&serving(Call::ServeUdp, tree, bytes));

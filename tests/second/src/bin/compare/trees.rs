@@ -68,9 +68,9 @@ fn post(random: &Random, tally: &mut Tally, draft: &Draft, tree: &[u8], cells: &
     *cells = seen.lent.cells.to_vec();
 }
 
-/// A place, mostly one that there is; others so that five times the place runs over 64 bits.
+/// A place, mostly one that there is; others so that five times or sixteen times the place runs over 64 bits.
 fn place(random: &Random, count: usize) -> usize {
-    let far = [count, count + 1, 255, 256, 1 << 32, usize::MAX, usize::MAX / 5 + 1, (1 << 63) + 1, random.next() as usize];
+    let far = [count, count + 1, 255, 256, 1 << 32, 1 << 60, usize::MAX, usize::MAX / 5 + 1, random.next() as usize];
     if count == 0 || random.once_in(5) {
         random.pick(&far)
     } else {
