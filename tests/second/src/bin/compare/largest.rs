@@ -47,6 +47,8 @@ fn deep_last(place: u8) -> u8 {
 /// In ten turns every property is of each kind with each attribute: live, setting, action, read only, neither.
 const TURNS: usize = 10;
 const ATTRIBUTES: [u16; 5] = [0x2001, 3, 2, 1, 0];
+/// Turns in which the last property is live, a setting, an action.
+const LAST_TURNS: [usize; 3] = [3, 4, 5];
 
 fn draft((parent, node): Shape, turn: usize) -> Draft {
     Draft {
@@ -78,8 +80,8 @@ fn cells(mark: u8, last: u8) -> Vec<u8> {
     cells
 }
 
-/// Places of properties: the first and the last ones, and those that there are not, some of which are the last where high bits
-/// are lost, also of five times or sixteen times the place.
+/// Places of properties: the first and the last ones, and some that there are not, which would be found where high bits of the
+/// place, or of five or sixteen times the place, were lost.
 const PLACES: [usize; 15] = [
     0, 1, 63, 64, LAST - 1, LAST, LAST + 1, LAST + 2, 255, 256 + LAST, (1 << 16) + LAST, (1 << 32) + LAST, (1 << 60) + LAST,
     usize::MAX, usize::MAX / 5 + 1,
@@ -94,7 +96,7 @@ pub fn run(random: &Random, tally: &mut Tally) {
             ask_all(tally, &draft, &tree);
         }
     }
-    for (turn, shape) in SHAPES.into_iter().enumerate().take(3) {
+    for (shape, turn) in SHAPES.into_iter().zip(LAST_TURNS) {
         let draft = draft(shape, turn);
         break_all(random, tally, &draft, 0..PROPERTIES);
         change_all(tally, &draft.form());

@@ -51,7 +51,7 @@ fn rooms(tally: &mut Tally, tree: &[u8]) {
         tally.compare(&Input { room, ..serving(Call::ServeSerial, tree, &string) });
         tally.compare(&Input { room, ..serving(Call::ServeUdp, tree, &datagram) });
         tally.compare(&Input { room, state: &state, bytes: &string, address: ADDRESS, ..Input::of(Call::Feed) });
-        tally.compare(&Input { room, bytes: &string, address: ADDRESS, ..Input::of(Call::ReadFrame) });
+        tally.compare(&Input { room, ..whole(&string) });
         for call in [Call::Frame, Call::Datagram, Call::WriteSerial, Call::WriteUdp] {
             tally.compare(&Input { room, bytes: &[1], op: 2, index: 1, address: ADDRESS, ..Input::of(call) });
         }
