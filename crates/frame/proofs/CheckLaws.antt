@@ -114,7 +114,7 @@ module _ (s : List ℕ) (from n : ℕ) (old : List ℕ) (room : n ≤ length old
         within = omega arith;
       }
 
-  pub copy-more : {out out′ : List ℕ} {i k k′ w : ℕ} → Copying s from n old out i k → k < n → i < length s
+  copy-more : {out out′ : List ℕ} {i k k′ w : ℕ} → Copying s from n old out i k → k < n → i < length s
       → Put k (getD s i 0 ∷ []) out k′ out′ → w ≡ length (doubled (getD s i 0)) → Copying s from n old out′ (i + w) k′
   copy-more {i = i} {k = k} {k′ = k′} {w = w} c h l p e =
       let b : ℕ = getD s i 0 in
@@ -133,6 +133,19 @@ module _ (s : List ℕ) (from n : ℕ) (old : List ℕ) (room : n ≤ length old
         put = puts (omega arith) (c .put) p;
         within = omega (arith, p .next);
       }
+
+  -- A byte other than 10h; and a 10h, behind which a byte is passed over.
+  pub copy-lone : {out out′ : List ℕ} {i k k′ : ℕ} → Copying s from n old out i k → k < n → i < length s
+      → Put k (getD s i 0 ∷ []) out k′ out′ → (getD s i 0 ≡ DLE → ⊥) → Copying s from n old out′ (i + 1) k′
+  copy-lone {i = i} c h l p u =
+      copy-more c h l p (sym (ap (λ t. length (cond t (DLE ∷ DLE ∷ []) (getD s i 0 ∷ []))) (ne-eqb (getD s i 0) DLE u)))
+
+  pub copy-doubled : {out out′ : List ℕ} {i k k′ : ℕ} → Copying s from n old out i k → k < n → i < length s
+      → Put k (getD s i 0 ∷ []) out k′ out′ → getD s i 0 ≡ DLE → Copying s from n old out′ (i + 1 + 1) k′
+  copy-doubled {out′ = out′} {i = i} {k′ = k′} c h l p e =
+      let two : i + 2 ≡ i + 1 + 1 = omega arith in
+      subst (λ m. Copying s from n old out′ m k′) two
+      (copy-more c h l p (sym (ap (λ t. length (cond t (DLE ∷ DLE ∷ []) (getD s i 0 ∷ []))) (eq-eqb (getD s i 0) DLE e))))
 
   pub copy-same : {out : List ℕ} {i k : ℕ} → Copying s from n old out i k → length out ≡ length old
   copy-same {k = k} c =

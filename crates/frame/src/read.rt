@@ -208,7 +208,13 @@ pub(crate) fn copy_content(s: &[u8], from: usize, n: usize, out: &mut [u8]) -> u
         }
         let b = s[i];
         k = buffer::put(out, k, b);
-        i += width(b);
+        i += 1;
+        if b == DLE {
+            if s.len() <= i {
+                return k;
+            }
+            i += 1;
+        }
     }
     k
 }
