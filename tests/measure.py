@@ -15,6 +15,7 @@ WHAT = {
     "feed-block": "`pq_feed`, a frame with 256 bytes of data in one call, for a byte",
     "read-request": "`pq_read_serial`, request of 10 bytes",
     "read-256": "`pq_read_serial`, frame with 256 bytes of data",
+    "read-frame": "`pq_read_frame`, frame with 256 bytes of data",
     "frame-20": "`pq_frame`, 20 bytes",
     "frame-256": "`pq_frame`, 256 bytes, the same each time",
     "frame-varied": "`pq_frame`, 256 bytes, 256 drawn strings by turns, one byte in eight 10h",
@@ -43,9 +44,14 @@ tested at run time in the second one; it allocates two lists for a tree.
 TAIL = """
 ## How to read it
 
-- Time depends on where the linker puts a loop. In a trial, 0, 16, 32 and 48 bytes were put before the same library. The row of a
-  byte fed alone came to 0.91, 1.01, 0.94 and 0.93 of the second implementation's time, the code being the same; every other row
-  stayed at 0.85 or under. A table shows the one build it was taken from; the instructions are the steadier number.
+- Time depends on where the linker puts a loop. In a trial, 0, 16, 32 and 48 bytes were put before the same library. Of the second
+  implementation's time a byte fed alone came to 0.96 or 0.97, a frame fed in one call to 0.80, 0.81, 0.82 and 0.99, the rows of
+  `pq_frame` to between 0.61 and 1.00 and `pq_read_frame` to between 0.63 and 0.83, the code being the same; every other row stayed
+  at 0.80 or under. In one more build a frame fed in one call came to 1.25. A table shows the one build it was taken from; the
+  instructions are the steadier number.
+- `pq_read_frame` goes over a good string twice: a refusal may not touch the output, and the checksum stands last. The copy takes
+  some 11 instructions for a byte; what it passes over behind a 10h goes by a branch that the processor guesses, not by a sum that
+  would wait for the byte.
 - The check of the tree is most of a row with a tree (two thirds or more on the bench tree): about 6 instructions for a byte of
   text (`tree::texts::characters_end`), and 31 for the numbers of a property (`tree::record::read_fields`).
 """
@@ -56,8 +62,8 @@ def what(row):
         return WHAT[row]
     call, tree = row.split("-")
     tree = {"bench": "bench tree", "largest": "largest tree"}[tree]
-    if call == "check":
-        return f"`pq_check`, {tree}"
+    if call in ("check", "reading"):
+        return f"`pq_{call}`, {tree}"
     return f"`pq_serve_data`, op {call[2:]}, {tree}"
 
 
