@@ -24,6 +24,7 @@ use Rattle.request.proofs.WriteLaws.{put-front, emits-formed}
 use Rattle.tree.specs.Seen.{seen}
 use Rattle.tree.specs.Cells.{cellsIn}
 use Rattle.tree.specs.Lent.{isLent, lentNumber}
+use Rattle.tree.proofs.CellLaws.{lent-done, lent-refused}
 use Rattle.answer.specs.Reply.{answerAsked, Answers}
 use Rattle.answer.proofs.AnswerLaws.{lent-sound}
 use Rattle.answer.specs.Serve.{turnedAway, inForm, serve, Call, serving, Serves}
@@ -36,24 +37,14 @@ answered-data t cs false bs = refl
 
 -- Rows 1 and 8 by the check and the room.
 module _ (tree cells : List ℕ) (room least : ℕ) {n : ℕ} (e : n ≡ lentNumber tree cells) where
-  row-by : (t : Bool) → isLent tree cells ≡ t → n ≡ cond t done unsound
-  unfolding lentNumber
-  row-by t h = e ∙ ap (λ b. cond b done unsound) h
-
   pub row-unsound : (n ≡ done → ⊥) → unsound ≡ cond (isLent tree cells) (cond (ltb room least) noRoom done) unsound
-  row-unsound u = go (isLent tree cells) refl
-    where
-      go : (t : Bool) → isLent tree cells ≡ t → unsound ≡ cond t (cond (ltb room least) noRoom done) unsound
-      go true h = absurd (u (row-by true h))
-      go false h = refl
+  row-unsound u = sym (ap (λ t. cond t (cond (ltb room least) noRoom done) unsound) (lent-refused tree cells e u))
 
   pub row-lent : n ≡ done → {u : Bool} → ltb room least ≡ u
       → cond u noRoom done ≡ cond (isLent tree cells) (cond (ltb room least) noRoom done) unsound
-  row-lent d f = ap (λ u. cond u noRoom done) (sym f) ∙ go (isLent tree cells) refl
-    where
-      go : (t : Bool) → isLent tree cells ≡ t → cond (ltb room least) noRoom done ≡ cond t (cond (ltb room least) noRoom done) unsound
-      go true h = refl
-      go false h = absurd (omega (arith, d, row-by false h))
+  row-lent d f =
+      ap (λ u. cond u noRoom done) (sym f)
+      ∙ sym (ap (λ t. cond t (cond (ltb room least) noRoom done) unsound) (lent-done tree cells e d))
 
 -- Rows 1 and 8 of a call, and the answer to what it received.
 abbrev pub lentRow : Call → ℕ

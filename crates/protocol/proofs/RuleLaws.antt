@@ -149,7 +149,7 @@ unfolding readable
 not-readable p c live unready = rw (live, unready) (and-false (canRead p))
 
 -- Saved cells lent again, cell by cell.
-abbrev propertyAt : List Property → ℕ → Property
+abbrev pub propertyAt : List Property → ℕ → Property
 propertyAt ps k = propertyIn (record { nodes = []; properties = ps }) k
 
 no-cell : (p : Property) → record { word = 0; ready = false } ≡ restoredCell p (record { word = 0; ready = false })

@@ -21,6 +21,7 @@ use Rattle.request.specs.Asked.{AskedIs}
 use Rattle.tree.specs.Seen.{seen, isTree}
 use Rattle.tree.specs.Cells.{cellsIn}
 use Rattle.tree.specs.Lent.{isLent, lentNumber, readOf, readIn, Reads}
+use Rattle.tree.proofs.CellLaws.{lent-refused}
 use Rattle.pualirqiq.specs.Calls.{treeNumber, Handed, handed, fieldsOf, HandsBack, Locates}
 
 -- A tree alone.
@@ -77,12 +78,8 @@ module _ (s : List ℕ) {n : ℕ} (told : n ≡ readDatagram s .number) where
 -- A reading.
 module _ (tree cells : List ℕ) (place old : ℕ) where
   pub reads-unsound : {n : ℕ} → n ≡ lentNumber tree cells → (n ≡ done → ⊥) → Reads (readIn tree cells place) old unsound old
-  unfolding lentNumber readIn
-  reads-unsound {n} e u = go (isLent tree cells) refl
-    where
-      go : (t : Bool) → isLent tree cells ≡ t → Reads (readIn tree cells place) old unsound old
-      go true q = absurd (u (e ∙ rw q))
-      go false q = rw q (record { number = refl; word-is = refl })
+  unfolding readIn
+  reads-unsound e u = rw (lent-refused tree cells e u) (record { number = refl; word-is = refl })
 
   module _ (lent : isLent tree cells ≡ true) where
     pub reads-missing : length (seen tree .properties) ≤ place → Reads (readIn tree cells place) old badParameter old

@@ -407,7 +407,7 @@ module _ (t : Tree) (cs : List Cell) (k w : ℕ) (ready : Bool) where
   unfolding post
   post-other h = rw (h, and-false (ltb k (length (t .properties))))
 
--- Lent bytes that passed the check.
+-- Lent bytes that passed the check, or did not.
 module _ (tree cells : List ℕ) where
   pub lent-done : {n : ℕ} → n ≡ lentNumber tree cells → n ≡ done → isLent tree cells ≡ true
   unfolding lentNumber
@@ -417,6 +417,14 @@ module _ (tree cells : List ℕ) where
       go true q = q
       go false q = absurd (omega (arith, sym h ∙ e, ap (λ t. cond t done unsound) q))
 
+  pub lent-refused : {n : ℕ} → n ≡ lentNumber tree cells → (n ≡ done → ⊥) → isLent tree cells ≡ false
+  unfolding lentNumber
+  lent-refused {n} e u = go (isLent tree cells) refl
+    where
+      go : (t : Bool) → isLent tree cells ≡ t → isLent tree cells ≡ false
+      go true q = absurd (u (e ∙ rw q))
+      go false q = q
+
   pub lent-form : isLent tree cells ≡ true → cells ≡ cellsForm (cellsIn cells)
   unfolding isLent
   lent-form e =
@@ -425,12 +433,8 @@ module _ (tree cells : List ℕ) where
 
 module _ (tree cells : List ℕ) (k w : ℕ) (ready : Bool) where
   pub posts-unsound : {n : ℕ} → n ≡ lentNumber tree cells → (n ≡ done → ⊥) → Updates (postIn tree cells k w ready) unsound cells
-  unfolding lentNumber postIn
-  posts-unsound {n} e h = go (isLent tree cells) refl
-    where
-      go : (t : Bool) → isLent tree cells ≡ t → Updates (postIn tree cells k w ready) unsound cells
-      go true q = absurd (h (e ∙ rw q))
-      go false q = rw q (record { number = refl; bytes = refl })
+  unfolding postIn
+  posts-unsound e h = rw (lent-refused tree cells e h) (record { number = refl; bytes = refl })
 
   pub posts-other : isLent tree cells ≡ true → isLive (propertyIn (seen tree) k) ≡ false → Updates (postIn tree cells k w ready) notLive cells
   unfolding postIn

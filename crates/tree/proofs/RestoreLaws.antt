@@ -4,22 +4,19 @@ use Prim.Native.Nat.{ℕ, zero, suc, _+_, _*_, _<_, _≤_}
 use native.Mathlib.Omega.{arith}
 use native.Mathlib.Nat.{not-suc-le-zero}
 use mathlib.Core.Path.{_≡_, refl, sym, ap, _∙_}
-use mathlib.Core.Bool.{Bool, true, false, cond}
+use mathlib.Core.Bool.{true, false, cond}
 use mathlib.Core.List.{List, [], _∷_}
 use lib.ListN.{length, take, set}
 use lib.Seq.{take-all}
 use Rattle.protocol.specs.Numbers.{done, unsound}
-use Rattle.protocol.specs.Tree.{Property, Tree, Cell, isLive, propertyIn, cellIn, unready, restoredCell, restored}
-use Rattle.protocol.proofs.RuleLaws.{restored-length}
+use Rattle.protocol.specs.Tree.{Property, Cell, isLive, propertyIn, cellIn, unready, restoredCell, restored}
+use Rattle.protocol.proofs.RuleLaws.{propertyAt, restored-length}
 use Rattle.tree.specs.Seen.{seen}
 use Rattle.tree.specs.Cells.{cellsForm, cellsIn, withMark}
 use Rattle.tree.specs.Lent.{isLent, lentNumber, restoreIn, Updates}
-use Rattle.tree.proofs.CellLaws.{cells-size, lent-form, mark-stored}
+use Rattle.tree.proofs.CellLaws.{cells-size, lent-form, lent-refused, mark-stored}
 
 -- One property more.
-abbrev propertyAt : List Property → ℕ → Property
-propertyAt ps k = propertyIn (record { nodes = []; properties = ps }) k
-
 step-live : (ps : List Property) (cs : List Cell) (k : ℕ) → k < length ps → isLive (propertyAt ps k) ≡ true
     → restored (take (suc k) ps) cs ≡ set (restored (take k ps) cs) k (unready (cellIn (restored (take k ps) cs) k))
 unfolding restored
@@ -100,9 +97,5 @@ module _ (tree old : List ℕ) where
       })
 
   pub restore-unsound : {n : ℕ} → n ≡ lentNumber tree old → (n ≡ done → ⊥) → Updates (restoreIn tree old) unsound old
-  unfolding lentNumber restoreIn
-  restore-unsound {n} e h = go (isLent tree old) refl
-    where
-      go : (t : Bool) → isLent tree old ≡ t → Updates (restoreIn tree old) unsound old
-      go true q = absurd (h (e ∙ rw q))
-      go false q = rw q (record { number = refl; bytes = refl })
+  unfolding restoreIn
+  restore-unsound e h = rw (lent-refused tree old e h) (record { number = refl; bytes = refl })
