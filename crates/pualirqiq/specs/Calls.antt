@@ -1,4 +1,5 @@
--- The C interface: what it takes for host functions and marks, and what begins in a lent buffer.
+-- The C interface: what it takes for host functions and marks, what begins in a lent buffer, and what is handed back beside a
+-- number.
 use Prim.Native.Nat.{ℕ, _*_}
 use mathlib.Core.Path.{_≡_}
 use mathlib.Core.Bool.{Bool, cond, not, _&&_}
