@@ -8,7 +8,7 @@ use mathlib.Core.Bool.{Bool, true, false, cond, false≢true, _&&_}
 use mathlib.Core.List.{List, [], _∷_}
 use mathlib.Core.Option.{Option, none, some}
 use mathlib.Core.Logic.{_⊎_, inl, inr}
-use borrow.Author.Tests.{eqb-true, eqb-false, ltb-true, lt-ltb, le-ltb, eq-eqb}
+use borrow.Author.Tests.{eqb-true, eqb-false, ltb-true, lt-ltb}
 use lib.ListN.{length, set}
 use lib.Dec.{eqb, ltb}
 use Rattle.protocol.specs.Numbers.{done, unsound, noRoom, disabled, badParameter, noReading, notSaved, notLive, NAK, DISABLED, opDetect, opNode, opRecord, opRead, saveFailed, wordEnd}
@@ -27,7 +27,7 @@ use Rattle.tree.specs.Lent.{isLent, Update, Updates, postIn, Read, Reads, readO
 use Rattle.tree.proofs.CellLaws.{inWidth, cells-in-form, cells-fit, lent-form}
 use Rattle.answer.specs.Serve.{turnedAway, inForm, Call, serving, dataCall, serialCall, udpCall, serveData, serveSerial, serveUdp, Serves}
 use Rattle.answer.proofs.ReadLaws.{readRequest-told, Early, early-sized, early-frame, early-datagram}
-use Rattle.answer.proofs.ServeLaws.{answerTo, Open, serve-by}
+use Rattle.answer.proofs.ServeLaws.{answerTo, Open, serve-by, serve-good}
 
 -- The cells that lie beside a lent tree are sound for it.
 cells-sound-in : (tree cells : List ℕ) → Bytes cells → isLent tree cells ≡ true → cellsSound (seen tree) (cellsIn cells) ≡ true
@@ -217,8 +217,7 @@ module _ (k : Call) (early : Early (k .string)) {out cells′ out′ : List ℕ}
         let t : Tree = seen (k .tree) in
         let cs : List Cell = cellsIn (k .cells) in
         let bs : List ℕ = k .string .payload in
-        let e : serving k ≡ inForm (k .form) (answerTo k) =
-        serve-by k true false true (o .lent) (le-ltb (k .room) (k .least) (o .roomy)) (eq-eqb (k .string .number) done good) in
+        let e : serving k ≡ inForm (k .form) (answerTo k) = serve-good k o good in
         let is : answerTo k ≡ answer t cs true bs = ap (λ b. answer t cs b bs) on in (
           h .number ∙ ap (λ w. w .number) e ∙ ap (λ a. a .number) (is ∙ write-accepted t cs bs place value s) ∙ saved-done cs place (s .request),
           ap (λ l. cellIn l place .word) (cells-after all (o .lent) e ∙ ap (λ a. a .cells) is)
@@ -262,8 +261,7 @@ module _ (k : Call) (early : Early (k .string)) {out cells′ out′ : List ℕ}
     pub open-probe-58 : AsksOpenProbe k → Open k → k .string .number ≡ done → k .host ≡ true
         → (n ≡ noReading) × (out′ ≡ over (k .form (NAK ∷ [])) out)
     open-probe-58 a o good on =
-        let e : serving k ≡ inForm (k .form) (answerTo k) =
-        serve-by k true false true (o .lent) (le-ltb (k .room) (k .least) (o .roomy)) (eq-eqb (k .string .number) done good) in
+        let e : serving k ≡ inForm (k .form) (answerTo k) = serve-good k o good in
         let is : answerTo k ≡ plain (cellsIn (k .cells)) noReading (NAK ∷ []) =
         ap (λ b. answer (seen (k .tree)) (cellsIn (k .cells)) b (k .string .payload)) on ∙ asked-58 k a in (
           h .number ∙ ap (λ s. s .number) e ∙ ap (λ x. x .number) is,

@@ -101,12 +101,13 @@ module _ (k : Call) where
         gives-row
         (serve-by true false false (o .lent) (le-ltb (k .room) (k .least) (o .roomy)) (ne-eqb (k .string .number) done u)) e away out
 
+    pub serve-good : k .string .number ≡ done → serving k ≡ inForm (k .form) (answerTo k)
+    serve-good d = serve-by true false true (o .lent) (le-ltb (k .room) (k .least) (o .roomy)) (eq-eqb (k .string .number) done d)
+
     pub serve-answered : k .string .number ≡ done → {out cells′ out′ : List ℕ} {n size action : ℕ}
         → Serves (inForm (k .form) (answerTo k)) out n size action cells′ out′ → Serves (serving k) out n size action cells′ out′
     serve-answered d {out} {cells′} {out′} {n} {size} {action} s =
-        subst (λ w. Serves w out n size action cells′ out′)
-        (sym (serve-by true false true (o .lent) (le-ltb (k .room) (k .least) (o .roomy)) (eq-eqb (k .string .number) done d)))
-        s
+        subst (λ w. Serves w out n size action cells′ out′) (sym (serve-good d)) s
 
     -- Every reply can be framed.
     pub replies : Sized (answerTo k .reply)

@@ -14,7 +14,7 @@ use Rattle.protocol.specs.Numbers.{done, unknownCommand, disabled, badPa
 use Rattle.protocol.specs.Bytes.{every, half, word, text, texts}
 use Rattle.protocol.specs.Frame.{Sized}
 use Rattle.protocol.specs.Request.{Request, Asked, asksIndex, asksValue, fits, askedIf, declined, beforeZero, readIndexed, readValued, readShape, readRequest}
-use Rattle.protocol.specs.Tree.{Node, Property, Tree, Cell, canRead, isLive, isText, isName, kindSound, liveSound, widthsSound, placesFrom, numbered, propertiesOf, propertyOf, nodeAt, nodeIn, propertyIn, cellIn, cellsSound, depthsSound, parentsSound, optionsSound, propertySound, nodesSound, propertiesSound, sound, readable}
+use Rattle.protocol.specs.Tree.{Node, Property, Tree, Cell, isLive, isText, isName, kindSound, liveSound, widthsSound, placesFrom, numbered, propertiesOf, propertyOf, nodeAt, nodeIn, propertyIn, cellIn, cellsSound, depthsSound, parentsSound, optionsSound, propertySound, nodesSound, propertiesSound, sound, readable}
 use Rattle.protocol.specs.Answer.{Outcome, saved, taken, readOnly, outOfRange, outcome, reason, writeNumber, stored, cellsAfter, echo, echoIndexed, nodeReply, recordReply, readReply, writeReply, Answer, plain, refuse, refusalCode, onRead, onWrite, onProperty, ifProperty, ifNode, perform, ifAsked, answer}
 use Rattle.protocol.proofs.TestLaws.{and-left, and-right, if-both, if-case, every-at, every-weaker}
 use Rattle.protocol.proofs.RequestLaws.{path-most}

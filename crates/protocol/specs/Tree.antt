@@ -187,7 +187,7 @@ cellsSound t cs = eqb (length cs) (length (t .properties)) && every (λ c. ltb (
 unfoldable pub readable : Property → Cell → Bool
 readable p c = canRead p && cond (isLive p) (c .ready) true
 
--- The number that a property has to read, or none.
+-- Row 12 and demand 2: the number that a property has to read, or none.
 unfoldable pub reading : Property → Cell → Option ℕ
 reading p c = cond (readable p c) (some (c .word)) none
 

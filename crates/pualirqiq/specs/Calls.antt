@@ -54,12 +54,14 @@ handed op path path-len index value =
 abbrev pub fieldsOf : Request → Handed
 fieldsOf r = handed (r .op) (padded (r .path)) (length (r .path)) (r .index) (r .value)
 
--- What was read, handed back: with 0 the fields of the request; with any other number they are left as they were.
+-- 01, Requests and replies: with 0, and only then, a string is read as a request. Its fields are handed back; with any other number
+-- what lay there is left as it was.
 pub record HandsBack (a : Asked) (old : Handed) (n : ℕ) (new : Handed) : Type 0 where
   pub number : n ≡ a .number
   pub fields : new ≡ cond (eqb (a .number) done) (fieldsOf (a .request)) old
 
--- Where a datagram's data stands in it: behind four bytes; of a refused one, 0 and 0, an empty part.
+-- 01, Frames on the wire: a good datagram's data is that part of the datagram itself, told by where it begins and how long it is; a
+-- refused one's is an empty part, 0 and 0.
 pub record Locates (what : Received) (s : List ℕ) (n offset len : ℕ) : Type 0 where
   pub number : n ≡ what .number
   pub offset-is : offset ≡ cond (eqb (what .number) done) 4 0

@@ -83,7 +83,8 @@ abbrev pub readingOf : Option ℕ → Reading
 readingOf none = reading-is.Nothing
 readingOf (some n) = reading-is.Word n
 
--- A reading asked for by place: 1; 11 where no property has the place; 12 where it has no number to read; else 0 and the number.
+-- House: a reading asked for by place, by 01's rows 1, 11 (no property has the place) and 12 (it has no number to read); else 0 and
+-- the number.
 pub record Read : Type 0 where
   pub number : ℕ
   pub word : Option ℕ
