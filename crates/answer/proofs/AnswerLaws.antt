@@ -17,19 +17,21 @@ use Rattle.protocol.proofs.TestLaws.{and-left, and-right}
 use Rattle.protocol.proofs.RequestLaws.{fitting, path-most}
 use Rattle.protocol.proofs.AnswerLaws.{Texts, texts-short, node-size, record-size}
 use Rattle.tree.specs.declared.record.Fields.{Fields}
-use Rattle.tree.specs.Form.{formOf}
+use Rattle.tree.specs.Form.{treeForm}
 use Rattle.tree.specs.Seen.{seen, same, isTree}
-use Rattle.tree.specs.Cells.{cellsForm, withWord}
-use Rattle.tree.specs.Lent.{FieldsAre, numbersOf, isLent}
+use Rattle.cells.specs.Cells.{cellsForm, withWord}
+use Rattle.tree.specs.Lookup.{FieldsAre, numbersOf}
+use Rattle.cells.specs.Lent.{isLent}
 use Rattle.tree.proofs.FormLaws.{sound-parts}
-use Rattle.tree.proofs.CellLaws.{word-stored}
-use Rattle.answer.specs.Reply.{actionNumber, answerAsked, Refuses, Answers}
+use Rattle.cells.proofs.CellLaws.{word-stored}
+use Rattle.answer.specs.Serve.{actionNumber}
+use Rattle.answer.specs.Steps.{answerAsked, Refuses, Answers}
 
 -- Lent bytes that passed the check: a place fits a byte, and the replies that hold texts are short.
 module _ (tree cells : List ℕ) (lent : isLent tree cells ≡ true) where
   pub lent-sound : sound (seen tree) ≡ true
   unfolding isLent isTree
-  lent-sound = and-right (same tree (formOf (seen tree))) _ (and-left (isTree tree) _ lent)
+  lent-sound = and-right (same tree (treeForm (seen tree))) _ (and-left (isTree tree) _ lent)
 
   pub place-fits : (place : ℕ) → place < length (seen tree .properties) → place < 256
   place-fits place h = omega (arith, h, sound-parts (seen tree) lent-sound .properties)

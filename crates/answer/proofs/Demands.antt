@@ -22,10 +22,10 @@ use Rattle.protocol.proofs.BufferLaws.{over-nil}
 use Rattle.protocol.proofs.AnswerLaws.{readRequest-fits, Finds, open-probe, Saves, Changes, none-changed, one-written, changes, write-accepted, write-holds, saved-done, others-stay, refusal-keeps}
 use Rattle.protocol.proofs.RuleLaws.{host-off, reading-some, not-readable, restored-live, restored-others}
 use Rattle.tree.specs.Seen.{seen, isTree}
-use Rattle.tree.specs.Cells.{cellsForm, cellsIn, hasCells}
-use Rattle.tree.specs.Lent.{isLent, Update, Updates, postIn, Read, Reads, readOf, readIn, orElse, restoreIn}
-use Rattle.tree.proofs.CellLaws.{inWidth, cells-in-form, cells-fit, lent-form}
-use Rattle.answer.specs.Serve.{turnedAway, inForm, Call, serving, dataCall, serialCall, udpCall, serveData, serveSerial, serveUdp, Serves}
+use Rattle.cells.specs.Cells.{cellsForm, cellsIn, hasCells}
+use Rattle.cells.specs.Lent.{isLent, Update, Updates, postIn, Read, Reads, readOf, readIn, orElse, restoreIn}
+use Rattle.cells.proofs.CellLaws.{inWidth, cells-in-form, cells-fit, lent-form}
+use Rattle.answer.specs.Serve.{rejected, inForm, Call, serving, dataCall, serialCall, udpCall, serveData, serveSerial, serveUdp, Serves}
 use Rattle.answer.proofs.ReadLaws.{readRequest-told, Early, early-sized, early-frame, early-datagram}
 use Rattle.answer.proofs.ServeLaws.{answerTo, Open, serve-by, serve-good}
 
@@ -87,7 +87,7 @@ ends t cs true bs =
 
 -- A serving call is turned away with one of rows 1 to 8, or gives the answer.
 data Way (k : Call) : Type 0 where
-  away : (m : ℕ) → 0 < m → m < disabled → serving k ≡ turnedAway (k .cells) m → Way k
+  away : (m : ℕ) → 0 < m → m < disabled → serving k ≡ rejected (k .cells) m → Way k
   answered : isLent (k .tree) (k .cells) ≡ true → k .string .number ≡ done → serving k ≡ inForm (k .form) (answerTo k) → Way k
 
 way : (k : Call) → Early (k .string) → Way k

@@ -19,7 +19,7 @@ use Rattle.protocol.proofs.AnswerLaws.{readRequest-fits}
 use Rattle.protocol.proofs.RequestLaws.{allowed, path-most, readPayload-by}
 use Rattle.request.specs.declared.Asked as declared
 use Rattle.request.specs.Asked.{padded, AskedIs}
-use Rattle.answer.specs.Reply.{askedIn, Asks}
+use Rattle.answer.specs.Steps.{askedIn, Asks}
 
 -- A reading of data: with 0 its request has one of the ops, and its other numbers come after 9.
 pub record Told (a : Asked) : Type 0 where

@@ -17,9 +17,9 @@ use Rattle.protocol.proofs.RequestLaws.{dataOf-size}
 use Rattle.request.specs.declared.Asked.{Asked}
 use Rattle.request.proofs.WriteLaws.{data-path, data-index, data-value, put-as, fit-as}
 use Rattle.tree.specs.declared.record.Fields.{Fields}
-use Rattle.tree.specs.Lent.{FieldsAre, numbersOf}
+use Rattle.tree.specs.Lookup.{FieldsAre, numbersOf}
 use Rattle.answer.specs.declared.write.Outcome as written
-use Rattle.answer.specs.Reply.{requestIn, Asks, meaning, numbersIn}
+use Rattle.answer.specs.Steps.{requestIn, Asks, meaning, numbersIn}
 
 -- An array's length, as the struct that holds the array tells it.
 pub path-room : {n room : ℕ} (path : List ℕ) → length (map (λ b. b) path) ≡ room → n ≤ room → n ≤ length path

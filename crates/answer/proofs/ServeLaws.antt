@@ -1,4 +1,4 @@
--- Serving calls, row by row, and their replies in the form of each road.
+-- Serving calls, row by row, and their replies in the form of each transport.
 -- Assumes nothing.
 use Prim.Native.Nat.{ℕ, _+_, _-_, _≤_}
 use native.Mathlib.Omega.{arith}
@@ -22,12 +22,12 @@ use Rattle.protocol.proofs.AnswerLaws.{reply-sized}
 use Rattle.frame.proofs.UdpLaws.{emits-datagram}
 use Rattle.request.proofs.WriteLaws.{put-front, emits-formed}
 use Rattle.tree.specs.Seen.{seen}
-use Rattle.tree.specs.Cells.{cellsIn}
-use Rattle.tree.specs.Lent.{isLent, lentNumber}
-use Rattle.tree.proofs.CellLaws.{lent-done, lent-refused}
-use Rattle.answer.specs.Reply.{answerAsked, Answers}
+use Rattle.cells.specs.Cells.{cellsIn}
+use Rattle.cells.specs.Lent.{isLent, lentNumber}
+use Rattle.cells.proofs.CellLaws.{lent-done, lent-refused}
+use Rattle.answer.specs.Steps.{answerAsked, Answers}
 use Rattle.answer.proofs.AnswerLaws.{lent-sound}
-use Rattle.answer.specs.Serve.{turnedAway, inForm, serve, Call, serving, Serves}
+use Rattle.answer.specs.Serve.{rejected, inForm, serve, Call, serving, Serves}
 
 -- What is read, answered, is its data answered.
 answered-data : (t : Tree) (cs : List Cell) (host : Bool) (bs : List ℕ) → answerAsked t cs host (readRequest bs) ≡ answer t cs host bs
@@ -58,13 +58,13 @@ module _ (k : Call) where
   pub serve-by : (t u v : Bool) → isLent (k .tree) (k .cells) ≡ t → ltb (k .room) (k .least) ≡ u → eqb (k .string .number) done ≡ v
       → serving k
       ≡ cond t
-      (cond u (turnedAway (k .cells) noRoom) (cond v (inForm (k .form) (answerTo k)) (turnedAway (k .cells) (k .string .number))))
-      (turnedAway (k .cells) unsound)
+      (cond u (rejected (k .cells) noRoom) (cond v (inForm (k .form) (answerTo k)) (rejected (k .cells) (k .string .number))))
+      (rejected (k .cells) unsound)
   unfolding serve
   serve-by t u v e f g = rw (e, f, g)
 
   -- Nothing written, no cell changed.
-  gives-row : {n m given len action : ℕ} → serving k ≡ turnedAway (k .cells) m → n ≡ m → (given ≡ n) × ((len ≡ 0) × (action ≡ 255))
+  gives-row : {n m given len action : ℕ} → serving k ≡ rejected (k .cells) m → n ≡ m → (given ≡ n) × ((len ≡ 0) × (action ≡ 255))
       → (out : List ℕ) → Serves (serving k) out given len action (k .cells) out
   gives-row {given = given} {len = len} {action = action} e f away out =
       subst (λ s. Serves s out given len action (k .cells) out) (sym e)
@@ -122,7 +122,7 @@ module _ (k : Call) where
       ∙ answered-data (seen (k .tree)) (cellsIn (k .cells)) (k .host) (k .string .payload))
       h
 
--- An answer in the form of its road.
+-- An answer in the form of its transport.
 module _ (a : Answer) {n size action : ℕ} {cells′ out out′ : List ℕ} (h : Answers a out n size action cells′ out′) where
   pub as-data : Serves (inForm (λ reply. reply) a) out n size action cells′ out′
   as-data =

@@ -1,3 +1,3 @@
 -- What the serving calls promise, over the definitions of `protocol` and the lent forms of `tree`.
-pub mod Reply
 pub mod Serve
+pub mod Steps

@@ -3,17 +3,16 @@ use Prim.Native.Nat.{ℕ}
 use mathlib.Core.Path.{_≡_}
 use mathlib.Core.Bool.{Bool, cond}
 use mathlib.Core.List.{List, []}
-use mathlib.Core.Option.{Option, none}
+use mathlib.Core.Option.{Option, none, some}
 use lib.ListN.{length}
 use lib.Dec.{eqb, ltb}
-use Rattle.protocol.specs.Numbers.{done, unsound, noRoom, roomData, roomUdp, roomSerial}
+use Rattle.protocol.specs.Numbers.{done, unsound, noRoom, noAction, roomData, roomUdp, roomSerial}
 use Rattle.protocol.specs.Frame.{Received, received, frame, datagram, ifSized, readFrame, readDatagram}
 use Rattle.protocol.specs.Buffer.{over}
 use Rattle.protocol.specs.Answer.{Answer, answer}
 use Rattle.tree.specs.Seen.{seen}
-use Rattle.tree.specs.Cells.{cellsForm, cellsIn}
-use Rattle.tree.specs.Lent.{isLent}
-use Rattle.answer.specs.Reply.{actionNumber}
+use Rattle.cells.specs.Cells.{cellsForm, cellsIn}
+use Rattle.cells.specs.Lent.{isLent}
 
 -- What a serving call gives: the number, what it writes to the front of the output, every byte of the cells, and the place of
 -- the property whose action is to be taken.
@@ -24,10 +23,10 @@ pub record Service : Type 0 where
   pub action : Option ℕ
 
 -- Rows 1 to 8: nothing is written, and no cell changes.
-abbrev pub turnedAway : List ℕ → ℕ → Service
-turnedAway cells n = record { number = n; written = []; cells = cells; action = none }
+abbrev pub rejected : List ℕ → ℕ → Service
+rejected cells n = record { number = n; written = []; cells = cells; action = none }
 
--- An answer, its reply in the form of the road that it goes by.
+-- An answer, its reply in the form of its transport.
 abbrev pub inForm : (List ℕ → List ℕ) → Answer → Service
 inForm form a = record { number = a .number; written = form (a .reply); cells = cellsForm (a .cells); action = a .action }
 
@@ -36,11 +35,11 @@ unfoldable pub serve : (List ℕ → List ℕ) → ℕ → ℕ → Received → 
 serve form least room r host tree cells =
     cond (isLent tree cells)
     (cond (ltb room least)
-    (turnedAway cells noRoom)
+    (rejected cells noRoom)
     (cond (eqb (r .number) done)
     (inForm form (answer (seen tree) (cellsIn cells) host (r .payload)))
-    (turnedAway cells (r .number))))
-    (turnedAway cells unsound)
+    (rejected cells (r .number))))
+    (rejected cells unsound)
 
 -- What a serving call is lent, and what it gives.
 pub record Call : Type 0 where
@@ -55,7 +54,7 @@ pub record Call : Type 0 where
 abbrev pub serving : Call → Service
 serving k = serve (k .form) (k .least) (k .room) (k .string) (k .host) (k .tree) (k .cells)
 
--- The three roads: request data, a serial string for the box's address, a datagram. A serial reply carries that address.
+-- The three transports: request data, a serial string for the box's address, a datagram. A serial reply carries that address.
 abbrev pub dataCall : ℕ → List ℕ → Bool → List ℕ → List ℕ → Call
 dataCall room bs host tree cells =
     record {
@@ -100,6 +99,11 @@ serveSerial address room s host tree cells = serving (serialCall address room s 
 
 abbrev pub serveUdp : ℕ → List ℕ → Bool → List ℕ → List ℕ → Service
 serveUdp room s host tree cells = serving (udpCall room s host tree cells)
+
+-- House: an action is told by its property's place.
+abbrev pub actionNumber : Option ℕ → ℕ
+actionNumber none = noAction
+actionNumber (some place) = place
 
 -- What a serving call hands back and leaves: its number, the length of what it wrote, the action's property, every byte of the
 -- cells and of the output.

@@ -1,28 +1,24 @@
 // A request that was read, answered: the reply at the front of an output of at least 256 bytes, and the cells afterwards.
-use super::ACK;
-use super::DISABLED;
-use super::DISABLED_CODE;
-use super::ERROR;
-use super::ILLEGAL;
-use super::NAK;
-use super::NO_ACTION;
-use super::NO_READING;
-use super::NOT_SAVED;
-use super::OP_RECORD;
 use super::Served;
 use super::reply;
 use super::write;
 use super::write::Outcome;
+use cells::Reading;
+use cells::cell;
+use protocol::BAD_PARAMETER;
+use protocol::DISABLED;
 use protocol::DONE;
+use protocol::NO_ACTION;
+use protocol::NO_READING;
+use protocol::NOT_SAVED;
+use protocol::OP_DETECT;
+use protocol::OP_NODE;
+use protocol::OP_READ;
+use protocol::OP_RECORD;
+use protocol::UNKNOWN_COMMAND;
+use protocol::codes;
 use request::Asked;
-use request::BAD_PARAMETER;
-use request::OP_DETECT;
-use request::OP_NODE;
-use request::OP_READ;
-use request::UNKNOWN_COMMAND;
 use tree::Found;
-use tree::Reading;
-use tree::cells;
 use tree::find;
 use tree::record;
 ghost use mathlib.Core.Path.{_≡_};
@@ -34,24 +30,24 @@ ghost use Rattle.protocol.specs.Numbers.{done, opDetect, opNode, opRead};
 ghost use Rattle.protocol.specs.Tree.{propertyIn};
 ghost use Rattle.protocol.specs.Answer.{refusalCode, onRead, onWrite, onProperty, ifNode, perform, outcome};
 ghost use Rattle.tree.specs.Seen.{seen};
-ghost use Rattle.tree.specs.Cells.{cellsIn};
-ghost use Rattle.tree.specs.Lent.{isLent};
-ghost use Rattle.answer.specs.Reply.{requestIn, askedIn, Asks, Refuses, answerAsked, Answers};
+ghost use Rattle.cells.specs.Cells.{cellsIn};
+ghost use Rattle.cells.specs.Lent.{isLent};
+ghost use Rattle.answer.specs.Steps.{requestIn, askedIn, Asks, Refuses, answerAsked, Answers};
 
 // Rows 9 to 12: the reply code of a refusal.
 fn refusal_code(number: u8) -> u8
     ensures { λ r. ⌜ r ≡ refusalCode number ⌝ }
 {
     if number == DISABLED {
-        return DISABLED_CODE;
+        return codes::DISABLED;
     }
     if number == UNKNOWN_COMMAND {
-        return ILLEGAL;
+        return codes::ILLEGAL;
     }
     if number == BAD_PARAMETER {
-        return ERROR;
+        return codes::ERROR;
     }
-    NAK
+    codes::NAK
 }
 
 fn refuse(number: u8, out: &mut [u8]) -> Served
@@ -70,7 +66,7 @@ fn on_read(tree: &[u8], cells: &[u8], place: usize, asked: Asked, out: &mut [u8]
     requires { ⌜ (256 ≤ length (now out)) × ((isLent (now tree) (now cells) ≡ true) × (Asks asked × (asked .op ≡ opRead))) ⌝ }
     ensures { λ r. ⌜ Answers (onRead (cellsIn (now (cells .entry))) (propertyIn (seen (now (tree .entry))) place) place (requestIn asked)) (now (out .entry)) (r .number) (r .len) (r .action) (now (cells .entry)) (now (out .exit)) ⌝ }
 {
-    let Reading::Word(n) = cells::reading(tree, cells, place) else {
+    let Reading::Word(n) = cell::reading(tree, cells, place) else {
         return refuse(NO_READING, out);
     };
     Served {
@@ -89,7 +85,7 @@ fn on_write(tree: &[u8], cells: &mut [u8], place: usize, asked: Asked, out: &mut
     let len = reply::put_written(o, asked, out);
     match o {
         Outcome::Saved => {
-            cells::store_word(cells, place, asked.value);
+            cell::store_word(cells, place, asked.value);
             Served {
                 number: DONE,
                 len,
@@ -160,7 +156,7 @@ fn perform(tree: &[u8], cells: &mut [u8], asked: Asked, out: &mut [u8]) -> Serve
     if asked.op == OP_DETECT {
         return Served {
             number: DONE,
-            len: reply::put_code(out, ACK),
+            len: reply::put_code(out, codes::ACK),
             action: NO_ACTION,
         };
     }

@@ -1,10 +1,10 @@
 // Replies, each from the front of an output of at least 256 bytes. A reply that is more than a code repeats the request's data
 // and adds to it.
-use super::OP_WRITE;
-use super::STATUS_OK;
 use super::write;
 use super::write::Outcome;
 use frame::buffer;
+use protocol::OP_WRITE;
+use protocol::STATUS_OK;
 use request::Asked;
 use tree::find;
 use tree::record;
@@ -20,8 +20,8 @@ ghost use Rattle.protocol.specs.Request.{dataOf};
 ghost use Rattle.protocol.specs.Tree.{propertyIn, Cell};
 ghost use Rattle.protocol.specs.Answer.{reason, nodeReply, recordReply, readReply, writeReply};
 ghost use Rattle.tree.specs.Seen.{seen};
-ghost use Rattle.tree.specs.Lent.{numbersOf};
-ghost use Rattle.answer.specs.Reply.{requestIn, Asks, meaning, numbersIn};
+ghost use Rattle.tree.specs.Lookup.{numbersOf};
+ghost use Rattle.answer.specs.Steps.{requestIn, Asks, meaning, numbersIn};
 
 // A reply of one code.
 pub(crate) fn put_code(out: &mut [u8], code: u8) -> usize

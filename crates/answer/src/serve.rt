@@ -1,26 +1,26 @@
 // Serving calls.
-use super::DISABLED;
-use super::NO_ACTION;
 use super::Served;
 use super::answer;
+use cells::check;
 use frame::buffer;
+use protocol::DISABLED;
 use protocol::DONE;
+use protocol::NO_ACTION;
 use protocol::NO_ROOM;
 use protocol::ROOM_DATA;
 use protocol::ROOM_SERIAL;
 use protocol::ROOM_UDP;
 use protocol::UNSOUND;
-use tree::check;
 ghost use mathlib.Core.Path.{_≡_};
 ghost use mathlib.Core.Bool.{cond, _&&_};
 ghost use lib.ListN.{length};
 ghost use lib.Dec.{ltb};
 ghost use Rattle.protocol.specs.Numbers.{done, unsound, noRoom};
-ghost use Rattle.tree.specs.Lent.{isLent};
+ghost use Rattle.cells.specs.Lent.{isLent};
 ghost use Rattle.answer.specs.Serve.{serveData, serveSerial, serveUdp, Serves};
 
 // A refusal of rows 1 to 8.
-fn turned_away(number: u8) -> Served
+fn rejected(number: u8) -> Served
     ensures { λ r. ⌜ (r .number ≡ number) × ((r .len ≡ 0) × (r .action ≡ 255)) ⌝ }
 {
     Served {
@@ -55,11 +55,11 @@ pub fn serve_data(
 {
     let lent = lent_number(tree, cells, out.len(), ROOM_DATA);
     if lent != DONE {
-        return turned_away(lent);
+        return rejected(lent);
     }
     let sized = frame::size::size_number(request.len());
     if sized != DONE {
-        return turned_away(sized);
+        return rejected(sized);
     }
     answer::answer_asked(tree, cells, host, request::read::read_data(request), out)
 }
@@ -77,12 +77,12 @@ pub fn serve_serial(
 {
     let lent = lent_number(tree, cells, out.len(), ROOM_SERIAL);
     if lent != DONE {
-        return turned_away(lent);
+        return rejected(lent);
     }
     let asked = request::read::read_serial(address, s);
     let read = asked.number;
     if is_frame_refusal(read) {
-        return turned_away(read);
+        return rejected(read);
     }
     let mut payload = [0u8; 256];
     let served = answer::answer_asked(tree, cells, host, asked, &mut payload);
@@ -107,12 +107,12 @@ pub fn serve_udp(
 {
     let lent = lent_number(tree, cells, out.len(), ROOM_UDP);
     if lent != DONE {
-        return turned_away(lent);
+        return rejected(lent);
     }
     let asked = request::read::read_udp(datagram);
     let read = asked.number;
     if is_frame_refusal(read) {
-        return turned_away(read);
+        return rejected(read);
     }
     let served = answer::answer_asked(tree, cells, host, asked, &mut out[4..]);
     let front = buffer::put_all(b"\0\0\0\0", out, 0);

@@ -1,16 +1,16 @@
 // What a write does.
-use super::SAVE_DONE;
-use super::SAVE_FAILED;
-use super::SAVE_NONE;
-use tree::STANDARD;
+use protocol::SAVE_DONE;
+use protocol::SAVE_FAILED;
+use protocol::SAVE_NONE;
+use protocol::STANDARD;
 use tree::record;
 use tree::record::Fields;
 ghost use mathlib.Core.Path.{_≡_};
 ghost use mathlib.Core.Bool.{_&&_};
 ghost use lib.Dec.{eqb};
 ghost use Rattle.protocol.specs.Answer.{inRange, outcome, saveByte};
-ghost use Rattle.tree.specs.Lent.{numbersOf};
-ghost use Rattle.answer.specs.Reply.{meaning};
+ghost use Rattle.tree.specs.Lookup.{numbersOf};
+ghost use Rattle.answer.specs.Steps.{meaning};
 
 // The value is saved, the action is taken, or neither: the property has no write attribute, or the value is out of range.
 pub enum Outcome {

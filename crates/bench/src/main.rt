@@ -72,6 +72,6 @@ fn read_all(state: &mut [u8], cells: &mut [u8])
 fn main() {
     io::write_all(STDOUT_FILENO, b"address=0\n");
     let mut state = [0u8; 261];
-    let mut cells = tree::bench::cells();
+    let mut cells = cells::bench::cells();
     read_all(&mut state, &mut cells);
 }

@@ -15,7 +15,8 @@ use Rattle.protocol.proofs.BufferLaws.{over-put, over-nil}
 use Rattle.frame.specs.Stream.{FedBy, fed, Feeds}
 use Rattle.answer.specs.Serve.{Service, Serves}
 use Rattle.console.specs.Text.{lines}
-use Rattle.console.specs.Bench.{benchAddress, textRoom, served, serialReply, shows, stepped, ServesLines, Steps}
+use Rattle.console.specs.Bench.{benchAddress, textRoom, served, serialReply, shows, stepped, Steps}
+use Rattle.console.specs.Steps.{ServesLines}
 
 -- What was written at the front of a buffer lies in it, and is its front.
 module _ (ys old : List ℕ) {new : List ℕ} {size : ℕ} (len : size ≡ length ys) (bytes : new ≡ over ys old) where

@@ -10,7 +10,7 @@ use Rattle.protocol.specs.Frame.{writeFrame}
 use Rattle.protocol.specs.Buffer.{over}
 use Rattle.protocol.specs.Bench.{benchTree}
 use Rattle.frame.specs.Stream.{FedBy, fed, hasForm}
-use Rattle.tree.specs.Form.{formOf}
+use Rattle.tree.specs.Form.{treeForm}
 use Rattle.answer.specs.Serve.{Service, serveData}
 use Rattle.console.specs.Text.{lines}
 
@@ -24,7 +24,7 @@ textRoom = 1058
 
 -- A frame's data served over the bench tree, host functions on.
 unfoldable pub served : List ℕ → List ℕ → Service
-served bs cells = serveData roomData bs true (formOf benchTree) cells
+served bs cells = serveData roomData bs true (treeForm benchTree) cells
 
 -- The serial reply, empty where there is none.
 abbrev pub serialReply : List ℕ → List ℕ
@@ -54,12 +54,6 @@ stepped room state cells bytes =
     cond (ltb room textRoom)
     (record { taken = 0; shown = []; state = state; cells = cells })
     (shows (fed benchAddress state bytes roomData) cells)
-
--- What `serve_lines` returns and leaves.
-pub record ServesLines (what : Service) (old : List ℕ) (size : ℕ) (cells′ new : List ℕ) : Type 0 where
-  pub len : size ≡ length (servedLines what)
-  pub cells : cells′ ≡ what .cells
-  pub bytes : new ≡ over (servedLines what) old
 
 -- The promise of `step`.
 pub record Steps (what : Stepped) (old : List ℕ) (count size : ℕ) (state′ cells′ new : List ℕ) : Type 0 where

@@ -4,7 +4,8 @@ use protocol::DONE;
 use protocol::NO_FRAME;
 ghost use Prim.Native.Nat.{_≤_};
 ghost use lib.ListN.{length};
-ghost use Rattle.console.specs.Bench.{served, ServesLines, stepped, Steps};
+ghost use Rattle.console.specs.Bench.{served, stepped, Steps};
+ghost use Rattle.console.specs.Steps.{ServesLines};
 
 // The room that the lines of a frame need.
 pub const TEXT_ROOM: usize = 1058;

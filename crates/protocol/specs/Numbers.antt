@@ -57,6 +57,10 @@ notLive = 14
 abbrev pub noFrame : ℕ
 noFrame = 255
 
+-- House: what a call says that leaves no action to be taken. No property has this place.
+abbrev pub noAction : ℕ
+noAction = 255
+
 -- 003, section 2: the characters of a frame.
 abbrev pub STX : ℕ
 STX = 0x02
@@ -168,6 +172,10 @@ maxProperties = 128
 
 abbrev pub maxName : ℕ
 maxName = 23
+
+-- a name or label with its zero
+abbrev pub nameRoom : ℕ
+nameRoom = 24
 
 -- the bytes of a unit or of all options, zeros included
 abbrev pub maxTexts : ℕ

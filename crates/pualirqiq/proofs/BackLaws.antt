@@ -18,9 +18,9 @@ use Rattle.frame.proofs.UdpLaws.{data-from-4}
 use Rattle.request.specs.declared.Asked as declared
 use Rattle.request.specs.Asked.{AskedIs}
 use Rattle.tree.specs.Seen.{seen, isTree}
-use Rattle.tree.specs.Cells.{cellsIn}
-use Rattle.tree.specs.Lent.{isLent, lentNumber, readOf, readIn, Reads}
-use Rattle.tree.proofs.CellLaws.{lent-refused}
+use Rattle.cells.specs.Cells.{cellsIn}
+use Rattle.cells.specs.Lent.{isLent, lentNumber, readOf, readIn, Reads}
+use Rattle.cells.proofs.CellLaws.{lent-refused}
 use Rattle.pualirqiq.specs.Calls.{treeNumber, Handed, handed, fieldsOf, HandsBack, Locates}
 
 -- A tree alone.

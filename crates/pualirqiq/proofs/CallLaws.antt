@@ -12,9 +12,9 @@ use Rattle.protocol.specs.Numbers.{done, unsound, maxProperties}
 use Rattle.protocol.specs.Buffer.{over, Put}
 use Rattle.protocol.proofs.TestLaws.{and-right, and-both}
 use Rattle.protocol.proofs.BufferLaws.{set-put, put-nil, puts, over-put}
-use Rattle.tree.specs.Form.{formOf}
+use Rattle.tree.specs.Form.{treeForm}
 use Rattle.tree.specs.Seen.{seen, same, isTree}
-use Rattle.tree.specs.Cells.{cellSize}
+use Rattle.cells.specs.Cells.{cellSize}
 use Rattle.tree.proofs.FormLaws.{sound-parts}
 use Rattle.pualirqiq.specs.Calls.{Zeroes, cellsSize, isCellsSized}
 
@@ -65,7 +65,7 @@ zeroes-wrong t size old e = subst (λ b. Zeroes b size old unsound old) (sym e) 
 module _ (tree : List ℕ) where
   pub few-properties : isTree tree ≡ true → length (seen tree .properties) ≤ maxProperties
   unfolding isTree
-  few-properties h = sound-parts (seen tree) (and-right (same tree (formOf (seen tree))) _ h) .properties
+  few-properties h = sound-parts (seen tree) (and-right (same tree (treeForm (seen tree))) _ h) .properties
 
   pub size-sound : isTree tree ≡ true → length (seen tree .properties) * cellSize ≡ cellsSize tree
   unfolding cellsSize

@@ -11,7 +11,7 @@ use Rattle.protocol.specs.Frame.{Received}
 use Rattle.protocol.specs.Request.{Request, Asked}
 use Rattle.frame.specs.Stream.{stateLength}
 use Rattle.request.specs.Asked.{padded}
-use Rattle.tree.specs.Cells.{cellSize}
+use Rattle.cells.specs.Cells.{cellSize}
 use Rattle.tree.specs.Seen.{seen, isTree}
 
 -- A number as a truth: 0 is no, any other yes.

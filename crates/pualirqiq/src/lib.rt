@@ -1,11 +1,11 @@
 // The C interface of the box (include/pualirqiq.h): every call on numbers and byte slices, thin over the crates below.
-use answer::NO_READING;
+use cells::Reading;
+use protocol::BAD_PARAMETER;
 use protocol::DONE;
+use protocol::NO_READING;
 use protocol::PropertyIndex;
 use protocol::UNSOUND;
 use request::Asked;
-use request::BAD_PARAMETER;
-use tree::Reading;
 ghost use mathlib.Core.Path.{_≡_};
 ghost use mathlib.Core.Bool.{true};
 ghost use lib.ListN.{length};
@@ -17,7 +17,7 @@ ghost use Rattle.protocol.specs.Request.{readSerial, readUdp, serialForm, udpFo
 ghost use Rattle.frame.specs.Stream.{stateLength, fed, Feeds};
 ghost use Rattle.request.specs.Asked.{requestOf, AskedIs};
 ghost use Rattle.request.specs.Write.{writeRequest};
-ghost use Rattle.tree.specs.Lent.{lentNumber, Updates, postIn, restoreIn, Reads, readIn};
+ghost use Rattle.cells.specs.Lent.{lentNumber, Updates, postIn, restoreIn, Reads, readIn};
 ghost use Rattle.answer.specs.Serve.{serveData, serveSerial, serveUdp, Serves};
 ghost use Rattle.pualirqiq.specs.Calls.{truth, Zeroes, isStateSized, cellsSize, isCellsSized, treeNumber, handed, HandsBack, Locates};
 
@@ -75,7 +75,7 @@ pub extern "C" fn pq_feed(
 pub extern "C" fn pq_check(tree: &[u8], cells: &[u8]) -> u8
     ensures { λ r. ⌜ r ≡ lentNumber (now (tree .entry)) (now (cells .entry)) ⌝ }
 {
-    tree::check::check(tree, cells)
+    cells::check::check(tree, cells)
 }
 
 // The check of a tree alone: 1 or 0.
@@ -97,7 +97,7 @@ pub extern "C" fn pq_cells_size(tree: &[u8]) -> usize
     if !tree::check::is_tree(tree) {
         return 0;
     }
-    tree::record::property_count(tree) * tree::CELL_SIZE
+    tree::record::property_count(tree) * cells::CELL_SIZE
 }
 
 // Cells that begin: every word 0, none ready: 1 or 0.
@@ -108,7 +108,7 @@ pub extern "C" fn pq_begin_cells(tree: &[u8], cells: &mut [u8]) -> u8
     if !tree::check::is_tree(tree) {
         return UNSOUND;
     }
-    if cells.len() != tree::record::property_count(tree) * tree::CELL_SIZE {
+    if cells.len() != tree::record::property_count(tree) * cells::CELL_SIZE {
         return UNSOUND;
     }
     clear(cells)
@@ -119,7 +119,7 @@ pub extern "C" fn pq_begin_cells(tree: &[u8], cells: &mut [u8]) -> u8
 pub extern "C" fn pq_post(tree: &[u8], cells: &mut [u8], place: usize, word: u32, ready: u8) -> u8
     ensures { λ r. ⌜ Updates (postIn (now (tree .entry)) (now (cells .entry)) place word (truth ready)) r (now (cells .exit)) ⌝ }
 {
-    tree::cells::post(tree, cells, place, word, ready != 0)
+    cells::update::post(tree, cells, place, word, ready != 0)
 }
 
 // Saved cells lent again, every live property marked not ready: 1 or 0.
@@ -127,7 +127,7 @@ pub extern "C" fn pq_post(tree: &[u8], cells: &mut [u8], place: usize, word: u32
 pub extern "C" fn pq_restore_cells(tree: &[u8], cells: &mut [u8]) -> u8
     ensures { λ r. ⌜ Updates (restoreIn (now (tree .entry)) (now (cells .entry))) r (now (cells .exit)) ⌝ }
 {
-    tree::cells::restore(tree, cells)
+    cells::update::restore(tree, cells)
 }
 
 // The number that the property at a place has to read: 1, 11 (no such property), 12 (no number) or 0.
@@ -135,13 +135,13 @@ pub extern "C" fn pq_restore_cells(tree: &[u8], cells: &mut [u8]) -> u8
 pub extern "C" fn pq_reading(tree: &[u8], cells: &[u8], place: usize, word: &mut u32) -> u8
     ensures { λ r. ⌜ Reads (readIn (now (tree .entry)) (now (cells .entry)) place) (now (word .entry)) r (now (word .exit)) ⌝ }
 {
-    if tree::check::check(tree, cells) != DONE {
+    if cells::check::check(tree, cells) != DONE {
         return UNSOUND;
     }
     if tree::record::property_count(tree) <= place {
         return BAD_PARAMETER;
     }
-    let Reading::Word(n) = tree::cells::reading(tree, cells, place) else {
+    let Reading::Word(n) = cells::cell::reading(tree, cells, place) else {
         return NO_READING;
     };
     *word = n;

@@ -9,7 +9,7 @@ use mathlib.Core.Bool.{Bool, true, false, _&&_}
 use mathlib.Core.List.{List, [], _∷_}
 use borrow.Author.Tests.{eqb-true, eq-eqb, ne-eqb, lt-ltb, le-ltb, le-leb, lt-leb}
 use lib.ListN.{length, getD, take, drop, replicate, length-take, length-drop}
-use lib.Seq.{take-all}
+use lib.Seq.{take-all, getD-drop}
 use lib.Dec.{eqb, leb}
 use Rattle.protocol.specs.Numbers.{done, unknownCommand, badParameter, PDI, opNode, opRead, opWriteExtended, maxDepth}
 use Rattle.protocol.specs.Bytes.{numberAfter, number}
@@ -60,20 +60,23 @@ module _ (op value : ℕ) (bs : List ℕ) {x : declared.Asked} where
   unfolding readIndexed
   indexed-some a = a
 
--- The number that four bytes stand for.
-number-four : (bs : List ℕ) → length bs ≡ 4
-    → number bs ≡ (((0 * 2 ^ 8 + getD bs 0 0) * 2 ^ 8 + getD bs 1 0) * 2 ^ 8 + getD bs 2 0) * 2 ^ 8 + getD bs 3 0
-unfolding numberAfter
-number-four [] h = absurd (omega (arith, h))
-number-four (a ∷ []) h = absurd (omega (arith, h))
-number-four (a ∷ b ∷ []) h = absurd (omega (arith, h))
-number-four (a ∷ b ∷ c ∷ []) h = absurd (omega (arith, h))
-number-four (a ∷ b ∷ c ∷ d ∷ []) h = refl
-number-four (a ∷ b ∷ c ∷ d ∷ e ∷ bs) h = absurd (omega (arith, h))
+-- Four bytes at the end, one by one.
+four : (bs : List ℕ) → length bs ≡ 4 → getD bs 0 0 ∷ getD bs 1 0 ∷ getD bs 2 0 ∷ getD bs 3 0 ∷ [] ≡ bs
+four [] h = absurd (omega (arith, h))
+four (a ∷ []) h = absurd (omega (arith, h))
+four (a ∷ b ∷ []) h = absurd (omega (arith, h))
+four (a ∷ b ∷ c ∷ []) h = absurd (omega (arith, h))
+four (a ∷ b ∷ c ∷ d ∷ []) h = refl
+four (a ∷ b ∷ c ∷ d ∷ e ∷ bs) h = absurd (omega (arith, h))
 
-pub word-four : (b : List ℕ) → length b ≡ 4 → {i j k n : ℕ} → i ≡ 0 * 2 ^ 8 + getD b 0 0 → j ≡ i * 2 ^ 8 + getD b 1 0
-    → k ≡ j * 2 ^ 8 + getD b 2 0 → n ≡ k * 2 ^ 8 + getD b 3 0 → n ≡ number b
-word-four b h p q r s = omega (arith, p, q, r, s, number-four b h)
+last-four : (end : ℕ) (bs : List ℕ) → length (drop (suc end) bs) ≡ 4
+    → getD bs (end + 1) 0 ∷ getD bs (end + 2) 0 ∷ getD bs (end + 3) 0 ∷ getD bs (end + 4) 0 ∷ [] ≡ drop (suc end) bs
+last-four end bs h =
+    let at : (i j : ℕ) → end + j ≡ suc end + i → getD bs (end + j) 0 ≡ getD (drop (suc end) bs) i 0 =
+    λ i j e. ap (λ k. getD bs k 0) e ∙ sym (getD-drop (suc end) bs i 0) in
+    ap₂ (λ a b. a ∷ b ∷ getD bs (end + 3) 0 ∷ getD bs (end + 4) 0 ∷ []) (at 0 1 (omega arith)) (at 1 2 (omega arith))
+    ∙ ap₂ (λ c d. getD (drop (suc end) bs) 0 0 ∷ getD (drop (suc end) bs) 1 0 ∷ c ∷ d ∷ []) (at 2 3 (omega arith)) (at 3 4 (omega arith))
+    ∙ four (drop (suc end) bs) h
 
 -- Ops 4 and 5: another length than the zero's place tells, and that length.
 after-zero : (bs : List ℕ) {end : ℕ} → end ≡ beforeZero bs → length (drop (suc (beforeZero bs)) bs) ≡ length bs - (end + 1)
@@ -88,15 +91,16 @@ module _ (op : ℕ) (bs : List ℕ) {x : declared.Asked} {end : ℕ} (e : end �
       (ne-eqb (length (drop (suc (beforeZero bs)) bs)) 4 (λ f. h (omega (arith, after-zero bs e, f)))))
       a
 
-  pub valued-whole : length bs ≡ end + 5 → {v : ℕ} → v ≡ number (take (length bs - (end + 1)) (drop (end + 1) bs))
+  pub valued-whole : length bs ≡ end + 5
+      → {v : ℕ} → v ≡ number (getD bs (end + 1) 0 ∷ getD bs (end + 2) 0 ∷ getD bs (end + 3) 0 ∷ getD bs (end + 4) 0 ∷ [])
       → AskedIs (readIndexed op v (take end bs)) x → AskedIs (readValued op bs) x
   unfolding readValued
   valued-whole h {v} f a =
-      let at : suc (beforeZero bs) ≡ end + 1 = ap suc (sym e) ∙ sym (add-one end) in
+      let long : length (drop (suc (beforeZero bs)) bs) ≡ 4 = omega (arith, h, after-zero bs e) in
       carry
-      (rw (eq-eqb (length (drop (suc (beforeZero bs)) bs)) 4 (omega (arith, h, after-zero bs e)))
+      (rw (eq-eqb (length (drop (suc (beforeZero bs)) bs)) 4 long)
       (ap₂ (λ n l. readIndexed op n l)
-      (ap (λ n. number (drop n bs)) at ∙ sym (f ∙ ap number (part-lent (end + 1) bs)))
+      (sym (f ∙ ap number (last-four end bs (ap (λ n. length (drop (suc n) bs)) e ∙ long)) ∙ ap (λ n. number (drop (suc n) bs)) e))
       (ap (λ n. take n bs) (sym e))))
       a
 

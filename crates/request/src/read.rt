@@ -1,14 +1,14 @@
 // Requests, read.
 use super::Asked;
-use super::BAD_PARAMETER;
-use super::OP_NODE;
-use super::OP_READ;
-use super::OP_WRITE_EXTENDED;
-use super::PDI;
-use super::UNKNOWN_COMMAND;
 use super::table;
+use protocol::BAD_PARAMETER;
 use protocol::DONE;
+use protocol::OP_NODE;
+use protocol::OP_READ;
+use protocol::OP_WRITE_EXTENDED;
+use protocol::PDI;
 use protocol::PropertyIndex;
+use protocol::UNKNOWN_COMMAND;
 ghost use mathlib.Core.Path.{_≡_};
 ghost use Prim.Native.Nat.{_+_, _-_, _*_, _≤_, _<_, _^_};
 ghost use lib.ListN.{length};
@@ -70,25 +70,6 @@ fn read_indexed(op: u8, value: u32, bs: &[u8]) -> Asked
     judge(op, &bs[..last], PropertyIndex(index), value)
 }
 
-// A number with one byte more behind it.
-fn with_byte(high: u32, low: u8) -> u32
-    requires { ⌜ high < 2 ^ 24 ⌝ }
-    ensures { λ r. ⌜ r ≡ high * 2 ^ 8 + low ⌝ }
-{
-    high * 256 + low as u32
-}
-
-// The number that four bytes stand for, the high byte first.
-fn word_of(b: &[u8]) -> u32
-    requires { ⌜ length (now b) ≡ 4 ⌝ }
-    ensures { λ r. ⌜ r ≡ number (now (b .entry)) ⌝ }
-{
-    let one = with_byte(0, b[0]);
-    let two = with_byte(one, b[1]);
-    let three = with_byte(two, b[2]);
-    with_byte(three, b[3])
-}
-
 // Ops 4 and 5: the first zero ends path and index, and four bytes follow it.
 fn read_valued(op: u8, bs: &[u8]) -> Asked
     ensures { λ r. ⌜ AskedIs (readValued op (now (bs .entry))) r ⌝ }
@@ -97,8 +78,7 @@ fn read_valued(op: u8, bs: &[u8]) -> Asked
     if bs.len() != end + 5 {
         return refusal(BAD_PARAMETER);
     }
-    let after = end + 1;
-    let value = word_of(&bs[after..]);
+    let value = word::word_of(bs[end + 1], bs[end + 2], bs[end + 3], bs[end + 4]);
     read_indexed(op, value, &bs[..end])
 }
 

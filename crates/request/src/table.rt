@@ -1,8 +1,8 @@
 // What the table of requests allows. Reading and writing both go by it.
-use super::MAX_DEPTH;
-use super::OP_DETECT;
-use super::OP_NODE;
-use super::OP_READ;
+use protocol::MAX_DEPTH;
+use protocol::OP_DETECT;
+use protocol::OP_NODE;
+use protocol::OP_READ;
 use protocol::PropertyIndex;
 ghost use mathlib.Core.Path.{_≡_};
 ghost use Rattle.protocol.specs.Request.{beforeZero, isPath, pathFits, indexFits, valueFits, fits};

@@ -1,18 +1,18 @@
 // Requests, written out.
-use super::BAD_PARAMETER;
-use super::OP_NODE;
-use super::OP_READ;
-use super::OP_WRITE_EXTENDED;
-use super::PDI;
-use super::UNKNOWN_COMMAND;
 use super::table;
 use frame::Written;
 use frame::buffer;
+use protocol::BAD_PARAMETER;
 use protocol::DONE;
 use protocol::NO_ROOM;
+use protocol::OP_NODE;
+use protocol::OP_READ;
+use protocol::OP_WRITE_EXTENDED;
+use protocol::PDI;
 use protocol::PropertyIndex;
 use protocol::ROOM_SERIAL;
 use protocol::ROOM_UDP;
+use protocol::UNKNOWN_COMMAND;
 ghost use mathlib.Core.Path.{_≡_};
 ghost use mathlib.Core.List.{_∷_};
 ghost use Prim.Native.Nat.{_≤_};

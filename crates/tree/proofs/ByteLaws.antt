@@ -15,7 +15,7 @@ use Rattle.protocol.specs.Tree.{Node, Property, Tree, isCharacter, isText, isNa
 use Rattle.protocol.specs.Answer.{recordTexts}
 use Rattle.protocol.proofs.TestLaws.{and-left, and-right, and-both}
 use Rattle.protocol.proofs.ListLaws.{bytes-cons}
-use Rattle.tree.specs.Form.{allTexts, allRecords, nodeTexts, nodeRecord, propertyRecord, namesOf, labelsOf, namesStart, formOf}
+use Rattle.tree.specs.Form.{allTexts, allRecords, nodeTexts, nodeRecord, propertyRecord, namesOf, labelsOf, namesStart, treeForm}
 use Rattle.tree.specs.Check.{kindFits, fieldsFit}
 use Rattle.tree.proofs.NumberLaws.{bytes-none, bytes-append, half-bytes, word-bytes}
 use Rattle.tree.proofs.PropertyLaws.{fits-by, Kept, kept}
@@ -107,8 +107,8 @@ record-texts-bytes nodes p h =
     let k : Kept nodes p = kept nodes p h in
     bytes-append (text (p .label)) (texts (p .options)) (name-bytes (p .label) (k .label)) (texts-bytes (p .options) (k .characters))
 
-pub form-bytes : (t : Tree) → sound t ≡ true → Bytes (formOf t)
-unfolding formOf
+pub form-bytes : (t : Tree) → sound t ≡ true → Bytes (treeForm t)
+unfolding treeForm
 form-bytes t h =
     let ok : Sound t = sound-parts t h in
     let nodes : ℕ = length (t .nodes) in

@@ -14,16 +14,16 @@ use Rattle.protocol.specs.Tree.{Node, Property, parentsSound, depthsSound, prop
 use Rattle.protocol.specs.Answer.{recordTexts}
 use Rattle.protocol.proofs.TestLaws.{and-left, and-right, and-both}
 use Rattle.protocol.proofs.ListLaws.{bytes-drop}
-use Rattle.tree.specs.Form.{nodeSize, propertySize, propertiesStart, textsStart, allTexts, allRecords, nodeTexts, nodeRecord, propertyRecord, formOf}
+use Rattle.tree.specs.Form.{nodeSize, propertySize, propertiesStart, textsStart, allTexts, allRecords, nodeTexts, nodeRecord, propertyRecord, treeForm}
 use Rattle.tree.specs.Seen.{recordsFrom, nodeSeen, propertySeen, seen, nodeCount, propertyCount, same, isTree}
-use Rattle.tree.specs.Check.{nodeEnd, propertyEnd, recordsEnd, lineageSound, parentsIn, countsFit, textsFit, endsAt, checked}
+use Rattle.tree.specs.Check.{nodeEnd, propertyEnd, recordsEnd, parentsFit, parentsIn, countsFit, textsFit, endsAt, checked}
 use Rattle.tree.proofs.FoundLaws.{then-back}
 use Rattle.tree.proofs.FieldLaws.{node-count, property-count}
 use Rattle.tree.proofs.SameLaws.{same-eq, same-refl}
 use Rattle.tree.proofs.TableLaws.{Laid, laid}
 use Rattle.tree.proofs.NodeLaws.{nodeGood, node-laid}
 use Rattle.tree.proofs.PropertyLaws.{propertyGood, property-laid}
-use Rattle.tree.proofs.DepthLaws.{alike, lineage-exact, parents-seen}
+use Rattle.tree.proofs.DepthLaws.{alike, depthsFit-exact, parents-seen}
 use Rattle.tree.proofs.StepLaws.{Counted, counts}
 use Rattle.tree.proofs.FormLaws.{sound-parts, sound-whole, form-checked}
 
@@ -61,9 +61,9 @@ module _ (bs : List ℕ) (all : Bytes bs) (h : checked bs ≡ true) where
   unfolding checked
   counted = counts bs (and-left (countsFit bs) _ h)
 
-  lineage-passed : lineageSound (parentsIn bs) ≡ true
+  depthsFit-passed : parentsFit (parentsIn bs) ≡ true
   unfolding checked
-  lineage-passed = and-left (lineageSound (parentsIn bs)) _ (and-right (countsFit bs) _ h)
+  depthsFit-passed = and-left (parentsFit (parentsIn bs)) _ (and-right (countsFit bs) _ h)
 
   -- All records laid out, the names up to a place and the labels from there.
   record Whole : Type 0 where
@@ -75,7 +75,7 @@ module _ (bs : List ℕ) (all : Bytes bs) (h : checked bs ≡ true) where
   unfolding checked textsFit
   whole =
       let ended : textsFit bs ≡ some (length bs) =
-      ends-there (textsFit bs) (length bs) (and-right (lineageSound (parentsIn bs)) _ (and-right (countsFit bs) _ h)) in
+      ends-there (textsFit bs) (length bs) (and-right (parentsFit (parentsIn bs)) _ (and-right (countsFit bs) _ h)) in
       let steps =
       then-back (recordsEnd nodeSize (nodeEnd bs) n (drop 2 bs) start)
       (λ k. recordsEnd propertySize (propertyEnd bs) m (drop (propertiesStart n) bs) k) ended in
@@ -113,8 +113,8 @@ module _ (bs : List ℕ) (all : Bytes bs) (h : checked bs ≡ true) where
       ∙ ap₂ (λ a b. a ++ b) (p .bytes ∙ ap (λ k. allRecords recordTexts propertyRecord k properties) (q .ends))
       (parted (length names) start bs ∙ ap₂ (λ a b. a ++ b) (q .texts) labels-last))
 
-  formed : bs ≡ formOf (seen bs)
-  unfolding formOf seen
+  formed : bs ≡ treeForm (seen bs)
+  unfolding treeForm seen
   formed =
       front
       ∙ ap (λ l. n ∷ m ∷ l) tables
@@ -122,8 +122,8 @@ module _ (bs : List ℕ) (all : Bytes bs) (h : checked bs ≡ true) where
       (λ k j. k ∷ j ∷ (allRecords nodeTexts nodeRecord (textsStart k j) nodes ++ (allRecords recordTexts propertyRecord (textsStart k j + length names) properties ++ (names ++ labels))))
       (sym (node-count bs)) (sym (property-count bs))
 
-  lineage-whole : (parentsSound nodes && depthsSound nodes) ≡ true
-  lineage-whole = sym (lineage-exact nodes) ∙ ap lineageSound (sym (parents-seen bs n (drop 2 bs))) ∙ lineage-passed
+  depthsFit-whole : (parentsSound nodes && depthsSound nodes) ≡ true
+  depthsFit-whole = sym (depthsFit-exact nodes) ∙ ap parentsFit (sym (parents-seen bs n (drop 2 bs))) ∙ depthsFit-passed
 
   sound-seen : sound (seen bs) ≡ true
   unfolding seen
@@ -131,8 +131,8 @@ module _ (bs : List ℕ) (all : Bytes bs) (h : checked bs ≡ true) where
       sound-whole (seen bs)
       (record {
         nodes = omega (arith, node-count bs, counted .nodes);
-        parents = and-left (parentsSound nodes) _ lineage-whole;
-        depths = and-right (parentsSound nodes) _ lineage-whole;
+        parents = and-left (parentsSound nodes) _ depthsFit-whole;
+        depths = and-right (parentsSound nodes) _ depthsFit-whole;
         names = whole .of-nodes .good;
         properties = omega (arith, property-count bs, counted .properties);
         each = ap (λ k. every (propertySound k) properties) (node-count bs) ∙ whole .of-properties .good;
@@ -146,8 +146,8 @@ module _ (bs : List ℕ) (all : Bytes bs) (h : checked bs ≡ true) where
 passes : (bs : List ℕ) → isTree bs ≡ true → checked bs ≡ true
 unfolding isTree
 passes bs h =
-    let same-bytes : bs ≡ formOf (seen bs) = same-eq bs (formOf (seen bs)) (and-left (same bs (formOf (seen bs))) _ h) in
-    ap checked same-bytes ∙ form-checked (seen bs) (sound-parts (seen bs) (and-right (same bs (formOf (seen bs))) _ h))
+    let same-bytes : bs ≡ treeForm (seen bs) = same-eq bs (treeForm (seen bs)) (and-left (same bs (treeForm (seen bs))) _ h) in
+    ap checked same-bytes ∙ form-checked (seen bs) (sound-parts (seen bs) (and-right (same bs (treeForm (seen bs))) _ h))
 
 pub checked-exact : (bs : List ℕ) → Bytes bs → checked bs ≡ isTree bs
 checked-exact bs all = alike (checked bs) (isTree bs) (passed bs all) (passes bs)

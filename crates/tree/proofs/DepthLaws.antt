@@ -14,7 +14,7 @@ use Rattle.protocol.specs.Tree.{Node, parentsFrom, parentsSound, depthsAfter, d
 use Rattle.protocol.proofs.TestLaws.{and-left, and-right, and-both, every-append, every-one}
 use Rattle.tree.specs.Form.{nodeSize}
 use Rattle.tree.specs.Seen.{recordsFrom, nodeSeen}
-use Rattle.tree.specs.Check.{lineage, lineageSound}
+use Rattle.tree.specs.Check.{depthsFit, parentsFit}
 
 -- Two tests that pass together come out the same.
 pub alike : (t u : Bool) → (t ≡ true → u ≡ true) → (u ≡ true → t ≡ true) → t ≡ u
@@ -49,44 +49,44 @@ abbrev parentsOf : List Node → List ℕ
 parentsOf ns = map (λ n. n .parent) ns
 
 -- Checked one after the other, parents and depths are sound exactly where they are as a whole.
-lineage-sound : (ns : List Node) (known : List ℕ) → lineage (parentsOf ns) known ≡ true → every shallow known ≡ true
+depthsFit-sound : (ns : List Node) (known : List ℕ) → depthsFit (parentsOf ns) known ≡ true → every shallow known ≡ true
     → (parentsFrom (length known) ns ≡ true) × (every shallow (depthsAfter known ns) ≡ true)
-unfolding lineage parentsFrom depthsAfter
-lineage-sound [] known h e = (refl, e)
-lineage-sound (n ∷ ns) known h e =
+unfolding depthsFit parentsFrom depthsAfter
+depthsFit-sound [] known h e = (refl, e)
+depthsFit-sound (n ∷ ns) known h e =
     let d : ℕ = getD known (n .parent) 0 in
     let rest = and-right (ltb (n .parent) (length known)) _ h in
     let small : d < maxDepth = ltb-true d maxDepth (and-left (ltb d maxDepth) _ rest) in
     let more : every shallow (known ++ suc d ∷ []) ≡ true =
     every-append shallow known (suc d ∷ []) e (every-one shallow (suc d) (le-leb (suc d) maxDepth small)) in
-    let both = lineage-sound ns (known ++ suc d ∷ []) (and-right (ltb d maxDepth) _ rest) more in
+    let both = depthsFit-sound ns (known ++ suc d ∷ []) (and-right (ltb d maxDepth) _ rest) more in
     let size : length (known ++ suc d ∷ []) ≡ suc (length known) = omega (arith, length-append known (suc d ∷ [])) in
     (and-both (and-left (ltb (n .parent) (length known)) _ h) (ap (λ k. parentsFrom k ns) (sym size) ∙ both .0), both .1)
 
-lineage-passes : (ns : List Node) (known : List ℕ) → parentsFrom (length known) ns ≡ true → every shallow (depthsAfter known ns) ≡ true
-    → lineage (parentsOf ns) known ≡ true
-unfolding lineage parentsFrom depthsAfter
-lineage-passes [] known p e = refl
-lineage-passes (n ∷ ns) known p e =
+depthsFit-passes : (ns : List Node) (known : List ℕ) → parentsFrom (length known) ns ≡ true → every shallow (depthsAfter known ns) ≡ true
+    → depthsFit (parentsOf ns) known ≡ true
+unfolding depthsFit parentsFrom depthsAfter
+depthsFit-passes [] known p e = refl
+depthsFit-passes (n ∷ ns) known p e =
     let d : ℕ = getD known (n .parent) 0 in
     let deep : suc d ≤ maxDepth = leb-true (suc d) maxDepth (every-last shallow known (suc d) (depths-stay ns (known ++ suc d ∷ []) e)) in
     let size : length (known ++ suc d ∷ []) ≡ suc (length known) = omega (arith, length-append known (suc d ∷ [])) in
     and-both (and-left (ltb (n .parent) (length known)) _ p)
     (and-both (lt-ltb d maxDepth deep)
-    (lineage-passes ns (known ++ suc d ∷ []) (ap (λ k. parentsFrom k ns) size ∙ and-right (ltb (n .parent) (length known)) _ p) e))
+    (depthsFit-passes ns (known ++ suc d ∷ []) (ap (λ k. parentsFrom k ns) size ∙ and-right (ltb (n .parent) (length known)) _ p) e))
 
-pub lineage-exact : (ns : List Node) → lineageSound (parentsOf ns) ≡ (parentsSound ns && depthsSound ns)
-unfolding lineageSound parentsSound depthsSound depthsAfter
-lineage-exact [] = refl
-lineage-exact (n ∷ ns) =
+pub depthsFit-exact : (ns : List Node) → parentsFit (parentsOf ns) ≡ (parentsSound ns && depthsSound ns)
+unfolding parentsFit parentsSound depthsSound depthsAfter
+depthsFit-exact [] = refl
+depthsFit-exact (n ∷ ns) =
     alike _ _
     (λ h.
-    let both = lineage-sound ns (1 ∷ []) (and-right (eqb (n .parent) 0) _ h) (every-one shallow 1 refl) in
+    let both = depthsFit-sound ns (1 ∷ []) (and-right (eqb (n .parent) 0) _ h) (every-one shallow 1 refl) in
     and-both (and-both (and-left (eqb (n .parent) 0) _ h) (both .0)) (both .1))
     (λ h.
     let p = and-left (eqb (n .parent) 0 && parentsFrom 1 ns) _ h in
     and-both (and-left (eqb (n .parent) 0) _ p)
-    (lineage-passes ns (1 ∷ []) (and-right (eqb (n .parent) 0) _ p) (and-right (eqb (n .parent) 0 && parentsFrom 1 ns) _ h)))
+    (depthsFit-passes ns (1 ∷ []) (and-right (eqb (n .parent) 0) _ p) (and-right (eqb (n .parent) 0 && parentsFrom 1 ns) _ h)))
 
 -- The parents that are seen in bytes.
 pub parents-seen : (bs : List ℕ) (n : ℕ) (r : List ℕ)

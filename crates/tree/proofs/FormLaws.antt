@@ -10,20 +10,20 @@ use borrow.Author.Tests.{leb-true, le-leb, eq-eqb}
 use lib.ListN.{length, getD, drop, length-append}
 use lib.Seq.{drop-drop, drop-at}
 use lib.Dec.{leb}
-use Rattle.protocol.specs.Numbers.{halfEnd, maxNodes, maxProperties}
+use Rattle.protocol.specs.Numbers.{halfEnd, maxNodes, maxProperties, nameRoom}
 use Rattle.protocol.specs.Bytes.{every, text, texts}
 use Rattle.protocol.specs.Tree.{Property, Tree, isName, parentsSound, depthsSound, propertySound, nodesSound, propertiesSound, sound}
 use Rattle.protocol.specs.Answer.{recordTexts}
 use Rattle.protocol.proofs.TestLaws.{and-left, and-right, and-both}
-use Rattle.tree.specs.Form.{nodeSize, propertySize, propertiesStart, textsStart, allRecords, nodeTexts, nodeRecord, propertyRecord, namesOf, labelsOf, namesStart, formOf}
+use Rattle.tree.specs.Form.{nodeSize, propertySize, propertiesStart, textsStart, allRecords, nodeTexts, nodeRecord, propertyRecord, namesOf, labelsOf, namesStart, treeForm}
 use Rattle.tree.specs.Seen.{recordsFrom, nodeSeen, propertySeen, seen, nodeCount, propertyCount, same, isTree, treeOf}
-use Rattle.tree.specs.Check.{nameRoom, nodeEnd, propertyEnd, recordsEnd, lineageSound, parentsIn, countsFit, textsFit, endsAt, checked}
+use Rattle.tree.specs.Check.{nodeEnd, propertyEnd, recordsEnd, parentsFit, parentsIn, countsFit, textsFit, endsAt, checked}
 use Rattle.tree.proofs.FoundLaws.{if-some, then-some}
 use Rattle.tree.proofs.SameLaws.{same-refl, same-eq}
 use Rattle.tree.proofs.TableLaws.{records-size, read-again, end-again, texts-bound}
 use Rattle.tree.proofs.NodeLaws.{length-text, name-short, nodeGood, node-written}
 use Rattle.tree.proofs.PropertyLaws.{Kept, kept, propertyGood, property-written}
-use Rattle.tree.proofs.DepthLaws.{lineage-exact, parents-seen}
+use Rattle.tree.proofs.DepthLaws.{depthsFit-exact, parents-seen}
 
 -- What a sound tree keeps.
 pub record Sound (t : Tree) : Type 0 where
@@ -72,7 +72,7 @@ texts-fit nodes p h =
 
 module _ (t : Tree) (ok : Sound t) where
   abbrev f : List ℕ
-  f = formOf t
+  f = treeForm t
 
   abbrev n : ℕ
   n = length (t .nodes)
@@ -102,7 +102,7 @@ module _ (t : Tree) (ok : Sound t) where
 
   -- The parts of a form, from their places on.
   nodes-there : drop 2 f ≡ nodeRecords ++ (propertyRecords ++ (namesOf t ++ labelsOf t))
-  unfolding formOf
+  unfolding treeForm
   nodes-there = refl
 
   properties-there : drop (propertiesStart n) f ≡ propertyRecords ++ (namesOf t ++ labelsOf t)
@@ -130,7 +130,7 @@ module _ (t : Tree) (ok : Sound t) where
       ∙ sym (append-nil (labelsOf t))
 
   pub length-form : length f ≡ mid + length (labelsOf t)
-  unfolding formOf
+  unfolding treeForm
   length-form =
       omega (
         arith,
@@ -142,11 +142,11 @@ module _ (t : Tree) (ok : Sound t) where
       )
 
   counted : (nodeCount f ≡ n) × (propertyCount f ≡ m)
-  unfolding formOf
+  unfolding treeForm
   counted = (refl, refl)
 
   good : every (propertyGood f) (t .properties) ≡ true
-  unfolding formOf
+  unfolding treeForm
   good = ok .each
 
   names-fit : namesStart t + length (namesOf t) < halfEnd
@@ -181,13 +181,13 @@ module _ (t : Tree) (ok : Sound t) where
       (and-both (le-leb (propertyCount f) maxProperties (omega (arith, counted .1, ok .properties)))
       (le-leb (textsStart (nodeCount f) (propertyCount f)) (length f) (omega (arith, counted .0, counted .1, length-form)))))
 
-  parents-pass : lineageSound (parentsIn f) ≡ true
+  parents-pass : parentsFit (parentsIn f) ≡ true
   parents-pass =
-      ap lineageSound
+      ap parentsFit
       (ap (λ k. recordsFrom nodeSize (λ r. getD r 0 0) k (drop 2 f)) (counted .0)
       ∙ parents-seen f n (drop 2 f)
       ∙ ap (λ ns. map (λ x. x .parent) ns) nodes-seen)
-      ∙ lineage-exact (t .nodes)
+      ∙ depthsFit-exact (t .nodes)
       ∙ and-both (ok .parents) (ok .depths)
 
   texts-pass : textsFit f ≡ some (length f)
@@ -210,21 +210,21 @@ module _ (t : Tree) (ok : Sound t) where
       and-both counts-pass (and-both parents-pass (ap (λ o. endsAt o (length f)) texts-pass ∙ eq-eqb (length f) (length f) refl))
 
 -- Every sound tree's form reads back as that tree.
-pub form-tree : (t : Tree) → sound t ≡ true → treeOf (formOf t) ≡ some t
+pub form-tree : (t : Tree) → sound t ≡ true → treeOf (treeForm t) ≡ some t
 unfolding treeOf isTree
 form-tree t h =
-    let back : seen (formOf t) ≡ t = form-seen t (sound-parts t h) in
-    let passes : (same (formOf t) (formOf (seen (formOf t))) && sound (seen (formOf t))) ≡ true =
-    and-both (ap (λ s. same (formOf t) (formOf s)) back ∙ same-refl (formOf t)) (ap sound back ∙ h) in
-    ap (λ b. cond b (some (seen (formOf t))) none) passes ∙ ap some back
+    let back : seen (treeForm t) ≡ t = form-seen t (sound-parts t h) in
+    let passes : (same (treeForm t) (treeForm (seen (treeForm t))) && sound (seen (treeForm t))) ≡ true =
+    and-both (ap (λ s. same (treeForm t) (treeForm s)) back ∙ same-refl (treeForm t)) (ap sound back ∙ h) in
+    ap (λ b. cond b (some (seen (treeForm t))) none) passes ∙ ap some back
 
 -- What reads as a tree is sound, and is read from its form.
-pub tree-sound : (bs : List ℕ) (t : Tree) → treeOf bs ≡ some t → (sound t ≡ true) × (bs ≡ formOf t)
+pub tree-sound : (bs : List ℕ) (t : Tree) → treeOf bs ≡ some t → (sound t ≡ true) × (bs ≡ treeForm t)
 unfolding treeOf isTree
 tree-sound bs t h =
-    let both = if-some (same bs (formOf (seen bs)) && sound (seen bs)) h in
+    let both = if-some (same bs (treeForm (seen bs)) && sound (seen bs)) h in
     let is : seen bs ≡ t = Option·some-injective _ _ (both .1) in
     let passed = both .0 in (
-      ap sound (sym is) ∙ and-right (same bs (formOf (seen bs))) _ passed,
-      same-eq bs (formOf (seen bs)) (and-left (same bs (formOf (seen bs))) _ passed) ∙ ap formOf is,
+      ap sound (sym is) ∙ and-right (same bs (treeForm (seen bs))) _ passed,
+      same-eq bs (treeForm (seen bs)) (and-left (same bs (treeForm (seen bs))) _ passed) ∙ ap treeForm is,
     )

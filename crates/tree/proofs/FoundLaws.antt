@@ -6,7 +6,7 @@ use mathlib.Core.Bool.{Bool, true, false, cond}
 use mathlib.Core.Option.{Option, none, some, Option·none-ne-some}
 use Rattle.tree.specs.declared.Found.the-variants.{At, Nothing}
 use Rattle.tree.specs.Check.{andThen}
-use Rattle.tree.specs.Lent.{foundOf}
+use Rattle.tree.specs.Lookup.{foundOf}
 
 -- A place that was found, and none.
 pub found-at : (o : Option ℕ) {place : ℕ} → At place ≡ foundOf o → o ≡ some place

@@ -11,9 +11,6 @@ pub mod DepthLaws
 pub mod FormLaws
 pub mod CheckLaws
 pub mod ByteLaws
-pub mod CellLaws
-pub mod ReadingLaws
-pub mod RestoreLaws
 pub mod FindLaws
 pub mod FieldLaws
 pub mod TextLaws

@@ -9,13 +9,13 @@ use mathlib.Core.Option.{none, some}
 use borrow.Author.Tests.{eqb-true, leb-true, eq-eqb, le-leb}
 use lib.ListN.{length, getD, take, drop, length-append}
 use lib.Dec.{eqb, leb}
-use Rattle.protocol.specs.Numbers.{halfEnd, maxName}
+use Rattle.protocol.specs.Numbers.{halfEnd, maxName, nameRoom}
 use Rattle.protocol.specs.Bytes.{Bytes, every, half, text, texts}
 use Rattle.protocol.specs.Tree.{Node, isText, isName}
 use Rattle.protocol.proofs.TestLaws.{and-left, and-right, and-both}
 use Rattle.tree.specs.Form.{nodeSize, nodeTexts, nodeRecord}
 use Rattle.tree.specs.Seen.{entries, halfAt, firstText, textsFrom, nodeSeen}
-use Rattle.tree.specs.Check.{textsEnd, textsEndIn, nameRoom, nodeEnd}
+use Rattle.tree.specs.Check.{textsEnd, textsEndIn, nodeEnd}
 use Rattle.tree.proofs.FoundLaws.{if-some}
 use Rattle.tree.proofs.ScanLaws.{Lie, scan-back, text-seen, scan-forth}
 use Rattle.tree.proofs.TableLaws.{LaidOne, Written}

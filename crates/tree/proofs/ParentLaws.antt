@@ -14,30 +14,30 @@ use lib.Dec.{eqb, leb}
 use Rattle.protocol.specs.Numbers.{maxDepth, maxNodes}
 use Rattle.tree.specs.Form.{nodeSize}
 use Rattle.tree.specs.Seen.{nodeCount}
-use Rattle.tree.specs.Check.{lineage, lineageSound, parentsIn}
+use Rattle.tree.specs.Check.{depthsFit, parentsFit, parentsIn}
 use Rattle.tree.proofs.RecordLaws.{records-length, first-at}
 
 -- A node's parent that stands behind it, one that stands too deep, and one that does neither.
 module _ (p : ℕ) (ps known : List ℕ) where
-  behind : length known ≤ p → lineage (p ∷ ps) known ≡ false
-  unfolding lineage
+  behind : length known ≤ p → depthsFit (p ∷ ps) known ≡ false
+  unfolding depthsFit
   behind h = rw (le-ltb p (length known) h)
 
-  too-deep : p < length known → maxDepth ≤ getD known p 0 → lineage (p ∷ ps) known ≡ false
-  unfolding lineage
+  too-deep : p < length known → maxDepth ≤ getD known p 0 → depthsFit (p ∷ ps) known ≡ false
+  unfolding depthsFit
   too-deep h d = rw (lt-ltb p (length known) h, le-ltb (getD known p 0) maxDepth d)
 
-  one-more : p < length known → getD known p 0 < maxDepth → lineage (p ∷ ps) known ≡ lineage ps (known ++ suc (getD known p 0) ∷ [])
-  unfolding lineage
+  one-more : p < length known → getD known p 0 < maxDepth → depthsFit (p ∷ ps) known ≡ depthsFit ps (known ++ suc (getD known p 0) ∷ [])
+  unfolding depthsFit
   one-more h d = rw (lt-ltb p (length known) h, lt-ltb (getD known p 0) maxDepth d)
 
-sound-first : (ps : List ℕ) → 1 ≤ length ps → lineageSound ps ≡ (eqb (getD ps 0 0) 0 && lineage (drop 1 ps) (1 ∷ []))
-unfolding lineageSound
+sound-first : (ps : List ℕ) → 1 ≤ length ps → parentsFit ps ≡ (eqb (getD ps 0 0) 0 && depthsFit (drop 1 ps) (1 ∷ []))
+unfolding parentsFit
 sound-first [] h = absurd (not-suc-le-zero h)
 sound-first (p ∷ ps) h = refl
 
-sound-empty : (ps : List ℕ) → length ps ≡ 0 → lineageSound ps ≡ false
-unfolding lineageSound
+sound-empty : (ps : List ℕ) → length ps ≡ 0 → parentsFit ps ≡ false
+unfolding parentsFit
 sound-empty [] h = refl
 sound-empty (p ∷ ps) h = absurd (omega (arith, h))
 
@@ -49,22 +49,22 @@ module _ (bs : List ℕ) where
   parent-at k h = first-at nodeSize (nodeCount bs) 2 bs k h
 
   -- What the check says of nodes that are too many, that are none, or of which the device names another.
-  pub too-many : maxNodes < nodeCount bs → false ≡ (leb (nodeCount bs) maxNodes && lineageSound (parentsIn bs))
-  too-many h = sym (ap (λ t. t && lineageSound (parentsIn bs)) (lt-leb (nodeCount bs) maxNodes h))
+  pub too-many : maxNodes < nodeCount bs → false ≡ (leb (nodeCount bs) maxNodes && parentsFit (parentsIn bs))
+  too-many h = sym (ap (λ t. t && parentsFit (parentsIn bs)) (lt-leb (nodeCount bs) maxNodes h))
 
-  counted : {t : Bool} → nodeCount bs ≤ maxNodes → lineageSound (parentsIn bs) ≡ t
-      → t ≡ (leb (nodeCount bs) maxNodes && lineageSound (parentsIn bs))
+  counted : {t : Bool} → nodeCount bs ≤ maxNodes → parentsFit (parentsIn bs) ≡ t
+      → t ≡ (leb (nodeCount bs) maxNodes && parentsFit (parentsIn bs))
   counted h e = sym (ap₂ (λ a b. a && b) (le-leb (nodeCount bs) maxNodes h) e)
 
-  pub no-device : nodeCount bs ≡ 0 → false ≡ (leb (nodeCount bs) maxNodes && lineageSound (parentsIn bs))
+  pub no-device : nodeCount bs ≡ 0 → false ≡ (leb (nodeCount bs) maxNodes && parentsFit (parentsIn bs))
   no-device h = counted (omega (arith, h)) (sound-empty (parentsIn bs) (parents-length ∙ h))
 
   pub device-elsewhere : nodeCount bs ≤ maxNodes → 1 ≤ nodeCount bs → (getD bs 2 0 ≡ 0 → ⊥)
-      → false ≡ (leb (nodeCount bs) maxNodes && lineageSound (parentsIn bs))
+      → false ≡ (leb (nodeCount bs) maxNodes && parentsFit (parentsIn bs))
   device-elsewhere m h d =
       counted m
       (sound-first (parentsIn bs) (omega (arith, h, parents-length))
-      ∙ ap (λ t. t && lineage (drop 1 (parentsIn bs)) (1 ∷ [])) (ne-eqb (getD (parentsIn bs) 0 0) 0 (λ e. d (sym (parent-at 0 h) ∙ e))))
+      ∙ ap (λ t. t && depthsFit (drop 1 (parentsIn bs)) (1 ∷ [])) (ne-eqb (getD (parentsIn bs) 0 0) 0 (λ e. d (sym (parent-at 0 h) ∙ e))))
 
 -- The nodes up to a place, with their depths.
 pub record Descending (bs : List ℕ) (nodes : ℕ) (depths : List ℕ) (k : ℕ) : Type 0 where
@@ -73,7 +73,7 @@ pub record Descending (bs : List ℕ) (nodes : ℕ) (depths : List ℕ) (k : ℕ
   pub first : 1 ≤ k
   pub within : k ≤ nodes
   pub size : length depths ≡ maxNodes
-  pub whole : lineageSound (parentsIn bs) ≡ lineage (drop k (parentsIn bs)) (take k depths)
+  pub whole : parentsFit (parentsIn bs) ≡ depthsFit (drop k (parentsIn bs)) (take k depths)
 
 module _ {bs : List ℕ} {nodes : ℕ} {depths : List ℕ} where
   pub descend-begins : nodes ≡ nodeCount bs → nodes ≤ maxNodes → 1 ≤ nodes → getD bs 2 0 ≡ 0 → length depths ≡ maxNodes
@@ -87,38 +87,38 @@ module _ {bs : List ℕ} {nodes : ℕ} {depths : List ℕ} where
         size = s;
         whole =
             sound-first (parentsIn bs) (omega (arith, parents-length bs))
-            ∙ ap (λ t. t && lineage (drop 1 (parentsIn bs)) (1 ∷ [])) (eq-eqb (getD (parentsIn bs) 0 0) 0 (parent-at bs 0 (omega arith) ∙ d))
-            ∙ ap (lineage (drop 1 (parentsIn bs))) (sym one);
+            ∙ ap (λ t. t && depthsFit (drop 1 (parentsIn bs)) (1 ∷ [])) (eq-eqb (getD (parentsIn bs) 0 0) 0 (parent-at bs 0 (omega arith) ∙ d))
+            ∙ ap (depthsFit (drop 1 (parentsIn bs))) (sym one);
       }
 
   module _ {k : ℕ} (w : Descending bs nodes depths k) where
     counts : nodeCount bs ≤ maxNodes
     counts = omega (arith, w .count, w .most)
 
-    pub descend-ends : nodes ≤ k → true ≡ (leb (nodeCount bs) maxNodes && lineageSound (parentsIn bs))
-    unfolding lineage
+    pub descend-ends : nodes ≤ k → true ≡ (leb (nodeCount bs) maxNodes && parentsFit (parentsIn bs))
+    unfolding depthsFit
     descend-ends h =
         counted bs counts
         (w .whole
-        ∙ ap (λ l. lineage l (take k depths)) (drop-of-length-le (parentsIn bs) {i = k} (omega (arith, w .count, parents-length bs))))
+        ∙ ap (λ l. depthsFit l (take k depths)) (drop-of-length-le (parentsIn bs) {i = k} (omega (arith, w .count, parents-length bs))))
 
     module _ (h : k < nodes) {p : ℕ} (e : p ≡ getD bs (2 + k * nodeSize) 0) where
       known : length (take k depths) ≡ k
       known = length-take-le k depths (omega (arith, w .size, w .most))
 
-      here : lineageSound (parentsIn bs) ≡ lineage (p ∷ drop (suc k) (parentsIn bs)) (take k depths)
+      here : parentsFit (parentsIn bs) ≡ depthsFit (p ∷ drop (suc k) (parentsIn bs)) (take k depths)
       here =
           let inside : k < nodeCount bs = omega (arith, w .count) in
           w .whole
-          ∙ ap (λ l. lineage l (take k depths))
+          ∙ ap (λ l. depthsFit l (take k depths))
           (drop-cons (parentsIn bs) k 0 (omega (arith, parents-length bs))
           ∙ ap (λ x. x ∷ drop (suc k) (parentsIn bs)) (parent-at bs k inside ∙ sym e))
 
-      pub descend-behind : k ≤ p → false ≡ (leb (nodeCount bs) maxNodes && lineageSound (parentsIn bs))
+      pub descend-behind : k ≤ p → false ≡ (leb (nodeCount bs) maxNodes && parentsFit (parentsIn bs))
       descend-behind q =
           counted bs counts (here ∙ behind p (drop (suc k) (parentsIn bs)) (take k depths) (omega (arith, known)))
 
-      pub descend-deep : p < k → maxDepth ≤ getD depths p 0 → false ≡ (leb (nodeCount bs) maxNodes && lineageSound (parentsIn bs))
+      pub descend-deep : p < k → maxDepth ≤ getD depths p 0 → false ≡ (leb (nodeCount bs) maxNodes && parentsFit (parentsIn bs))
       descend-deep q d =
           counted bs counts
           (here
@@ -138,7 +138,7 @@ module _ {bs : List ℕ} {nodes : ℕ} {depths : List ℕ} where
             whole =
                 here
                 ∙ one-more p (drop (suc k) (parentsIn bs)) (take k depths) (omega (arith, known)) (omega (arith, same))
-                ∙ ap (λ n. lineage (drop (suc k) (parentsIn bs)) (take k depths ++ n ∷ [])) (ap suc same ∙ sym (add-one depth))
-                ∙ ap (lineage (drop (suc k) (parentsIn bs))) (sym (take-suc-set depths k (depth + 1) (omega (arith, w .size, w .most))))
-                ∙ ap (λ n. lineage (drop n (parentsIn bs)) (take n (set depths k (depth + 1)))) (sym (add-one k));
+                ∙ ap (λ n. depthsFit (drop (suc k) (parentsIn bs)) (take k depths ++ n ∷ [])) (ap suc same ∙ sym (add-one depth))
+                ∙ ap (depthsFit (drop (suc k) (parentsIn bs))) (sym (take-suc-set depths k (depth + 1) (omega (arith, w .size, w .most))))
+                ∙ ap (λ n. depthsFit (drop n (parentsIn bs)) (take n (set depths k (depth + 1)))) (sym (add-one k));
           }

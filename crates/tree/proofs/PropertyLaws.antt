@@ -11,7 +11,7 @@ use borrow.Author.Tests.{eqb-true, leb-true, ltb-true, eq-eqb, le-leb, lt-ltb}
 use lib.ListN.{length, getD, take, drop, length-append}
 use lib.Seq.{length-take-le, drop-drop, take-add, drop-append-seam}
 use lib.Dec.{eqb, leb, ltb}
-use Rattle.protocol.specs.Numbers.{halfEnd, wordEnd, standard, enumeration, maxOption, maxTexts}
+use Rattle.protocol.specs.Numbers.{halfEnd, wordEnd, standard, enumeration, maxOption, maxTexts, nameRoom}
 use Rattle.protocol.specs.Bytes.{Bytes, every, half, word, text, texts, atMost}
 use Rattle.protocol.specs.Request.{beforeZero}
 use Rattle.protocol.specs.Tree.{Property, isSigned, isText, isName, liveSound, standardSound, enumerationSound, kindSound, optionsSound, widthsSound, propertySound}
@@ -20,7 +20,7 @@ use Rattle.protocol.proofs.TestLaws.{and-left, and-right, and-both}
 use Rattle.protocol.proofs.ListLaws.{number-word}
 use Rattle.tree.specs.Form.{propertySize, propertyRecord}
 use Rattle.tree.specs.Seen.{entries, halfAt, wordAt, firstText, afterText, textsFrom, optionCount, propertySeen, nodeCount}
-use Rattle.tree.specs.Check.{textsEnd, textsEndIn, nameRoom, andThen, kindFits, fieldsFit, propertyEnd}
+use Rattle.tree.specs.Check.{textsEnd, textsEndIn, andThen, kindFits, fieldsFit, propertyEnd}
 use Rattle.tree.proofs.ScanLaws.{Lie, scan-back, text-seen, text-passed, texts-seen, scan-forth}
 use Rattle.tree.proofs.FoundLaws.{if-some, then-some, then-back}
 use Rattle.tree.proofs.TableLaws.{LaidOne, Written}

@@ -12,7 +12,7 @@ use borrow.Author.Tests.{leb-true, le-leb, eq-eqb, ne-eqb}
 use lib.ListN.{length, getD, drop}
 use lib.Seq.{drop-drop}
 use lib.Dec.{eqb, leb}
-use Rattle.protocol.specs.Numbers.{done, unsound, standard, enumeration, maxNodes, maxProperties, maxOption, maxTexts}
+use Rattle.protocol.specs.Numbers.{done, unsound, standard, enumeration, maxNodes, maxProperties, maxOption, maxTexts, nameRoom}
 use Rattle.protocol.specs.Bytes.{atMost}
 use Rattle.protocol.specs.Tree.{Property, isSigned, canRead, canWrite, isLive, liveSound, propertyIn}
 use Rattle.protocol.proofs.TestLaws.{and-left, and-right}
@@ -21,9 +21,8 @@ use Rattle.tree.specs.declared.Found.the-variants.{At, Nothing}
 use Rattle.tree.specs.declared.record.Fields.{Fields}
 use Rattle.tree.specs.Form.{nodeSize, propertySize, propertiesStart, textsStart}
 use Rattle.tree.specs.Seen.{halfAt, wordAt, seen, isTree, nodeCount, propertyCount, propertySeen, optionCount}
-use Rattle.tree.specs.Cells.{cellsIn, hasCells}
-use Rattle.tree.specs.Check.{textsEndIn, andThen, nameRoom, nodeEnd, kindFits, fieldsFit, propertyEnd, recordsEnd, lineageSound, parentsIn, countsFit, textsFit, endsAt, checked}
-use Rattle.tree.specs.Lent.{foundOf, FieldsAre, numbersOf, isLent, lentNumber}
+use Rattle.tree.specs.Check.{textsEndIn, andThen, nodeEnd, kindFits, fieldsFit, propertyEnd, recordsEnd, parentsFit, parentsIn, countsFit, textsFit, endsAt, checked}
+use Rattle.tree.specs.Lookup.{foundOf, FieldsAre, numbersOf}
 use Rattle.tree.proofs.FoundLaws.{found-at, found-none, if-some, then-back}
 use Rattle.tree.proofs.NumberLaws.{half-behind}
 use Rattle.tree.proofs.FieldLaws.{property-at, property-count, name-place}
@@ -247,21 +246,21 @@ module _ (bs : List ℕ) where
         records-within nodeSize (nodeEnd bs) (length bs) (λ r at next h q. node-within bs r at h q) (nodeCount bs) (drop 2 bs)
         (textsStart (nodeCount bs) (propertyCount bs)) (counts bs fit .records) (found-at names e)
 
-    counted-by : {t : Bool} → lineageSound (parentsIn bs) ≡ t → checked bs ≡ (t && endsAt (textsFit bs) (length bs))
+    counted-by : {t : Bool} → parentsFit (parentsIn bs) ≡ t → checked bs ≡ (t && endsAt (textsFit bs) (length bs))
     unfolding checked
     counted-by e = rw (fit, e)
 
-    lineage-is : {t : Bool} → (leb (nodeCount bs) maxNodes && lineageSound (parentsIn bs)) ≡ t → lineageSound (parentsIn bs) ≡ t
-    lineage-is e =
-        sym (ap (λ u. u && lineageSound (parentsIn bs)) (le-leb (nodeCount bs) maxNodes (counts bs fit .nodes))) ∙ e
+    depthsFit-is : {t : Bool} → (leb (nodeCount bs) maxNodes && parentsFit (parentsIn bs)) ≡ t → parentsFit (parentsIn bs) ≡ t
+    depthsFit-is e =
+        sym (ap (λ u. u && parentsFit (parentsIn bs)) (le-leb (nodeCount bs) maxNodes (counts bs fit .nodes))) ∙ e
 
-    pub parentless : (leb (nodeCount bs) maxNodes && lineageSound (parentsIn bs)) ≡ false → checked bs ≡ false
-    parentless e = counted-by (lineage-is e)
+    pub parentless : (leb (nodeCount bs) maxNodes && parentsFit (parentsIn bs)) ≡ false → checked bs ≡ false
+    parentless e = counted-by (depthsFit-is e)
 
-    module _ (parents : (leb (nodeCount bs) maxNodes && lineageSound (parentsIn bs)) ≡ true) where
+    module _ (parents : (leb (nodeCount bs) maxNodes && parentsFit (parentsIn bs)) ≡ true) where
       texts-by : {o : Option ℕ} → names ≡ o → checked bs ≡ endsAt (andThen o labels) (length bs)
       unfolding textsFit
-      texts-by e = counted-by (lineage-is parents) ∙ ap (λ o. endsAt (andThen o labels) (length bs)) e
+      texts-by e = counted-by (depthsFit-is parents) ∙ ap (λ o. endsAt (andThen o labels) (length bs)) e
 
       pub nameless : Nothing ≡ foundOf names → checked bs ≡ false
       unfolding andThen
@@ -275,11 +274,3 @@ module _ (bs : List ℕ) where
         pub all-read : {end : ℕ} → At end ≡ foundOf (labels mid) → checked bs ≡ eqb end (length bs)
         unfolding andThen
         all-read f = texts-by (found-at names e) ∙ ap (λ o. endsAt o (length bs)) (found-at (labels mid) f)
-
--- The number of tree and cells, by the three tests.
-pub lent-by : (tree cells : List ℕ) {t u v : Bool} → isTree tree ≡ t → hasCells cells ≡ u
-    → eqb (length (cellsIn cells)) (propertyCount tree) ≡ v → cond (t && (u && v)) done unsound ≡ lentNumber tree cells
-unfolding lentNumber isLent
-lent-by tree cells {t} {u} e f g =
-    sym (ap₂ (λ a b. cond (a && (b && eqb (length (cellsIn cells)) (length (seen tree .properties)))) done unsound) e f
-    ∙ ap (λ v. cond (t && (u && v)) done unsound) (ap (eqb (length (cellsIn cells))) (property-count tree) ∙ g))

@@ -20,7 +20,7 @@ use Rattle.protocol.proofs.BufferLaws.{set-put, Filling, fill-begins, fill-more
 use Rattle.tree.specs.declared.Found.the-variants.{At, Nothing}
 use Rattle.tree.specs.Seen.{textsFrom}
 use Rattle.tree.specs.Check.{charactersIn, textsEnd, textsEndIn}
-use Rattle.tree.specs.Lent.{foundOf}
+use Rattle.tree.specs.Lookup.{foundOf}
 use Rattle.tree.proofs.ScanLaws.{end-on, end-last, end-next, end-bad, texts-zero, texts-more}
 
 -- As many entries as there are.

@@ -1,11 +1,12 @@
--- The check of a tree, step by step, as the code makes it. That it comes to `isTree` is proved in proofs/CheckLaws.
+-- No public promise is stated by these definitions: they follow the code step by step.
+-- The check of a tree. That it comes to `isTree` is proved in proofs/CheckLaws.
 use Prim.Native.Nat.{ℕ, zero, suc, _-_}
 use mathlib.Core.Bool.{Bool, true, false, cond, _&&_}
 use mathlib.Core.List.{List, [], _∷_, _++_}
 use mathlib.Core.Option.{Option, none, some}
 use lib.ListN.{length, getD, take, drop}
 use lib.Dec.{eqb, ltb, leb}
-use Rattle.protocol.specs.Numbers.{standard, enumeration, maxDepth, maxNodes, maxProperties, maxOption, maxTexts}
+use Rattle.protocol.specs.Numbers.{standard, enumeration, maxDepth, nameRoom, maxNodes, maxProperties, maxOption, maxTexts}
 use Rattle.protocol.specs.Bytes.{atMost}
 use Rattle.protocol.specs.Tree.{Property, isSigned, isCharacter, liveSound}
 use Rattle.tree.specs.Form.{nodeSize, propertySize, propertiesStart, textsStart}
@@ -32,10 +33,6 @@ textsEndIn bs room left at = textsEnd (take room (drop at bs)) left at
 unfoldable pub andThen : Option ℕ → (ℕ → Option ℕ) → Option ℕ
 andThen none f = none
 andThen (some n) f = f n
-
--- A name or label with its zero.
-abbrev pub nameRoom : ℕ
-nameRoom = 24
 
 -- A node's record where the texts before it ended at a place: the place that it names is that one, and a name lies there. Gives
 -- the end of the name.
@@ -65,18 +62,18 @@ module _ (size : ℕ) (recordEnd : List ℕ → ℕ → Option ℕ) where
   recordsEnd (suc n) r at = andThen (recordEnd r at) (λ next. recordsEnd n (drop size r) next)
 
 -- Parents, each of which stands before its child, and depths: those of the nodes passed are known.
-unfoldable pub lineage : List ℕ → List ℕ → Bool
-lineage [] known = true
-lineage (p ∷ ps) known =
-    ltb p (length known) && (ltb (getD known p 0) maxDepth && lineage ps (known ++ suc (getD known p 0) ∷ []))
+unfoldable pub depthsFit : List ℕ → List ℕ → Bool
+depthsFit [] known = true
+depthsFit (p ∷ ps) known =
+    ltb p (length known) && (ltb (getD known p 0) maxDepth && depthsFit ps (known ++ suc (getD known p 0) ∷ []))
 
 -- The parents of all nodes, the device's first.
 abbrev pub parentsIn : List ℕ → List ℕ
 parentsIn bs = recordsFrom nodeSize (λ r. getD r 0 0) (nodeCount bs) (drop 2 bs)
 
-unfoldable pub lineageSound : List ℕ → Bool
-lineageSound [] = false
-lineageSound (p ∷ ps) = eqb p 0 && lineage ps (1 ∷ [])
+unfoldable pub parentsFit : List ℕ → Bool
+parentsFit [] = false
+parentsFit (p ∷ ps) = eqb p 0 && depthsFit ps (1 ∷ [])
 
 -- The counts fit, and the records are all there.
 unfoldable pub countsFit : List ℕ → Bool
@@ -96,4 +93,4 @@ endsAt none n = false
 endsAt (some m) n = eqb m n
 
 unfoldable pub checked : List ℕ → Bool
-checked bs = countsFit bs && (lineageSound (parentsIn bs) && endsAt (textsFit bs) (length bs))
+checked bs = countsFit bs && (parentsFit (parentsIn bs) && endsAt (textsFit bs) (length bs))

@@ -1,3 +1,4 @@
+-- No public promise is stated by these definitions: they follow the code step by step.
 -- Lookups: the records that name a node.
 use Prim.Native.Nat.{ℕ}
 use mathlib.Core.List.{List}

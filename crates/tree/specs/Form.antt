@@ -54,8 +54,8 @@ abbrev pub namesStart : Tree → ℕ
 namesStart t = textsStart (length (t .nodes)) (length (t .properties))
 
 -- The two counts, the node records, the property records, the texts in the same order.
-unfoldable pub formOf : Tree → List ℕ
-formOf t =
+unfoldable pub treeForm : Tree → List ℕ
+treeForm t =
     length (t .nodes)
     ∷ length (t .properties)
     ∷ (allRecords nodeTexts nodeRecord (namesStart t) (t .nodes)

@@ -1,7 +1,6 @@
--- How a tree and its cells lie in lent bytes (docs/FORMATS.md), and what the calls of this crate promise.
+-- How a tree lies in lent bytes (docs/FORMATS.md), and what the calls of this crate promise.
 pub mod Form
 pub mod Seen
-pub mod Cells
-pub mod Lent
+pub mod Lookup
 pub mod Check
 pub mod Find

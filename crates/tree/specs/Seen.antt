@@ -10,7 +10,7 @@ use Rattle.protocol.specs.Numbers.{enumeration}
 use Rattle.protocol.specs.Bytes.{number}
 use Rattle.protocol.specs.Request.{beforeZero}
 use Rattle.protocol.specs.Tree.{Node, Property, Tree, sound}
-use Rattle.tree.specs.Form.{nodeSize, propertySize, propertiesStart, formOf}
+use Rattle.tree.specs.Form.{nodeSize, propertySize, propertiesStart, treeForm}
 
 -- So many bytes from a place on.
 unfoldable pub entries : ℕ → ℕ → List ℕ → List ℕ
@@ -86,7 +86,7 @@ same (x ∷ xs) (y ∷ ys) = eqb x y && same xs ys
 -- Bytes have a form where they are the form of the tree that is seen in them; so nothing lies past it. They stand for that
 -- tree where it is sound too.
 unfoldable pub isTree : List ℕ → Bool
-isTree bs = same bs (formOf (seen bs)) && sound (seen bs)
+isTree bs = same bs (treeForm (seen bs)) && sound (seen bs)
 
 unfoldable pub treeOf : List ℕ → Option Tree
 treeOf bs = cond (isTree bs) (some (seen bs)) none

@@ -1,8 +1,7 @@
-// The bench tree of document 01 in its lent form, and its cells where each case starts.
+// The bench tree of document 01 in its lent form.
 ghost use mathlib.Core.Path.{_≡_};
-ghost use Rattle.protocol.specs.Bench.{benchTree, benchCells};
-ghost use Rattle.tree.specs.Form.{formOf};
-ghost use Rattle.tree.specs.Cells.{cellsForm};
+ghost use Rattle.protocol.specs.Bench.{benchTree};
+ghost use Rattle.tree.specs.Form.{treeForm};
 
 pub const TREE: [u8; 159] = [
     0x03,
@@ -166,42 +165,8 @@ pub const TREE: [u8; 159] = [
     0x00,
 ];
 
-pub const CELLS: [u8; 25] = [
-    0x00,
-    0x00,
-    0x08,
-    0x34,
-    0x01,
-    0x00,
-    0x00,
-    0x21,
-    0x34,
-    0x00,
-    0x00,
-    0x00,
-    0x00,
-    0x04,
-    0x00,
-    0x00,
-    0x00,
-    0x00,
-    0x00,
-    0x00,
-    0x00,
-    0x00,
-    0x00,
-    0x00,
-    0x00,
-];
-
 pub fn tree() -> [u8; 159]
-    ensures { λ r. ⌜ r ≡ formOf benchTree ⌝ }
+    ensures { λ r. ⌜ r ≡ treeForm benchTree ⌝ }
 {
     TREE
-}
-
-pub fn cells() -> [u8; 25]
-    ensures { λ r. ⌜ r ≡ cellsForm benchCells ⌝ }
-{
-    CELLS
 }

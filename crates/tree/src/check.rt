@@ -1,21 +1,20 @@
-// The check: number 1 exactly where lent bytes stand for no sound tree, or others for no state of its cells.
-use super::ENUMERATION;
+// The check of a tree.
 use super::Found;
-use super::MAX_NODES;
-use super::MAX_OPTION;
-use super::MAX_PROPERTIES;
-use super::NAME_ROOM;
 use super::NODE_SIZE;
 use super::PROPERTY_SIZE;
-use super::STANDARD;
-use super::TEXTS_ROOM;
 use super::bytes;
-use super::cells;
 use super::parents;
 use super::record;
 use super::record::Fields;
 use super::texts;
 use protocol::DONE;
+use protocol::ENUMERATION;
+use protocol::MAX_NODES;
+use protocol::MAX_OPTION;
+use protocol::MAX_PROPERTIES;
+use protocol::MAX_TEXTS;
+use protocol::NAME_ROOM;
+use protocol::STANDARD;
 use protocol::UNSOUND;
 ghost use mathlib.Core.Path.{_≡_};
 ghost use Prim.Native.Nat.{_+_, _*_, _≤_, _<_};
@@ -24,7 +23,7 @@ ghost use Rattle.protocol.specs.Tree.{liveSound};
 ghost use Rattle.tree.specs.Form.{nodeSize, propertySize, propertiesStart};
 ghost use Rattle.tree.specs.Seen.{isTree, nodeCount, propertyCount};
 ghost use Rattle.tree.specs.Check.{nodeEnd, propertyEnd, recordsEnd, kindFits, fieldsFit, countsFit};
-ghost use Rattle.tree.specs.Lent.{foundOf, lentNumber, numbersOf};
+ghost use Rattle.tree.specs.Lookup.{foundOf, numbersOf};
 
 // A node's record, from where the texts before it ended: the end of its name.
 fn node_end(tree: &[u8], k: usize, at: usize) -> Found
@@ -42,7 +41,7 @@ fn names_end(tree: &[u8], start: usize) -> Found
     requires { ⌜ start ≤ length (now tree) ⌝ }
     ensures { λ r. ⌜ r ≡ foundOf (recordsEnd nodeSize (nodeEnd (now (tree .entry))) (nodeCount (now (tree .entry))) (drop 2 (now (tree .entry))) start) ⌝ }
 {
-    let nodes = bytes::wide(bytes::byte_at(tree, 0));
+    let nodes = word::wide(bytes::byte_at(tree, 0));
     let mut at = start;
     let mut k = 0;
     while k < nodes {
@@ -88,7 +87,7 @@ fn live_fits(f: Fields) -> bool
 fn fields_fit(nodes: usize, f: Fields) -> bool
     ensures { λ r. ⌜ r ≡ fieldsFit nodes (numbersOf f) ⌝ }
 {
-    if nodes <= bytes::wide(f.node) {
+    if nodes <= word::wide(f.node) {
         return false;
     }
     if !live_fits(f) {
@@ -103,7 +102,7 @@ fn property_end(tree: &[u8], k: usize, at: usize) -> Found
     ensures { λ r. ⌜ r ≡ foundOf (propertyEnd (now (tree .entry)) (drop (propertiesStart (nodeCount (now (tree .entry))) + k * propertySize) (now (tree .entry))) at) ⌝ }
 {
     let f = record::read_fields(tree, k);
-    if !fields_fit(bytes::wide(bytes::byte_at(tree, 0)), f) {
+    if !fields_fit(word::wide(bytes::byte_at(tree, 0)), f) {
         return Found::Nothing;
     }
     let place = record::properties_start(tree) + k * PROPERTY_SIZE + 14;
@@ -113,7 +112,7 @@ fn property_end(tree: &[u8], k: usize, at: usize) -> Found
     let Found::At(mid) = texts::texts_end(tree, at, 1, NAME_ROOM) else {
         return Found::Nothing;
     };
-    texts::texts_end(tree, mid, record::option_count(f.kind, f.max), TEXTS_ROOM)
+    texts::texts_end(tree, mid, record::option_count(f.kind, f.max), MAX_TEXTS)
 }
 
 // All properties' records, from where the names ended: the end of their texts.
@@ -121,7 +120,7 @@ fn labels_end(tree: &[u8], start: usize) -> Found
     requires { ⌜ start ≤ length (now tree) ⌝ }
     ensures { λ r. ⌜ r ≡ foundOf (recordsEnd propertySize (propertyEnd (now (tree .entry))) (propertyCount (now (tree .entry))) (drop (propertiesStart (nodeCount (now (tree .entry)))) (now (tree .entry))) start) ⌝ }
 {
-    let properties = bytes::wide(bytes::byte_at(tree, 1));
+    let properties = word::wide(bytes::byte_at(tree, 1));
     let mut at = start;
     let mut k = 0;
     while k < properties {
@@ -141,10 +140,10 @@ fn counts_fit(tree: &[u8]) -> bool
     if tree.len() < 2 {
         return false;
     }
-    if MAX_NODES < bytes::wide(tree[0]) {
+    if MAX_NODES < word::wide(tree[0]) {
         return false;
     }
-    let properties = bytes::wide(tree[1]);
+    let properties = word::wide(tree[1]);
     if MAX_PROPERTIES < properties {
         return false;
     }
@@ -161,7 +160,7 @@ pub fn is_tree(tree: &[u8]) -> bool
     if !parents::parents_sound(tree) {
         return false;
     }
-    let start = record::properties_start(tree) + bytes::wide(tree[1]) * PROPERTY_SIZE;
+    let start = record::properties_start(tree) + word::wide(tree[1]) * PROPERTY_SIZE;
     let Found::At(mid) = names_end(tree, start) else {
         return false;
     };
@@ -169,20 +168,4 @@ pub fn is_tree(tree: &[u8]) -> bool
         return false;
     };
     end == tree.len()
-}
-
-// The number of tree and cells: 1 or 0.
-pub fn check(tree: &[u8], cells: &[u8]) -> u8
-    ensures { λ r. ⌜ r ≡ lentNumber (now (tree .entry)) (now (cells .entry)) ⌝ }
-{
-    if !is_tree(tree) {
-        return UNSOUND;
-    }
-    if !cells::has_cells(cells) {
-        return UNSOUND;
-    }
-    if cells::count(cells) != bytes::wide(bytes::byte_at(tree, 1)) {
-        return UNSOUND;
-    }
-    DONE
 }

@@ -14,7 +14,7 @@ ghost use lib.Dec.{eqb};
 ghost use Rattle.protocol.specs.Tree.{numbered, childrenOf, propertiesOf, childOf, propertyOf, nodeAt};
 ghost use Rattle.tree.specs.Seen.{seen};
 ghost use Rattle.tree.specs.Find.{belonging, childrenTable, propertiesTable};
-ghost use Rattle.tree.specs.Lent.{foundOf};
+ghost use Rattle.tree.specs.Lookup.{foundOf};
 
 // Records of one size, and which of them are looked at: from one place in the list to an end.
 pub(crate) struct Table {
@@ -32,7 +32,7 @@ fn children_table(tree: &[u8]) -> Table
         start: 2,
         size: NODE_SIZE,
         first: 1,
-        end: bytes::wide(bytes::byte_at(tree, 0)),
+        end: word::wide(bytes::byte_at(tree, 0)),
     }
 }
 
@@ -43,7 +43,7 @@ fn properties_table(tree: &[u8]) -> Table
         start: record::properties_start(tree),
         size: PROPERTY_SIZE,
         first: 0,
-        end: bytes::wide(bytes::byte_at(tree, 1)),
+        end: word::wide(bytes::byte_at(tree, 1)),
     }
 }
 
@@ -52,7 +52,7 @@ fn names_node(tree: &[u8], table: Table, k: usize, node: usize) -> u8
     requires { ⌜ (table .start < 65536) × ((table .size < 256) × (k < 256)) ⌝ }
     ensures { λ r. ⌜ r ≡ cond (eqb (getD (now (tree .entry)) (table .start + k * table .size) 0) node) 1 0 ⌝ }
 {
-    if bytes::wide(bytes::byte_at(tree, table.start + k * table.size)) == node {
+    if word::wide(bytes::byte_at(tree, table.start + k * table.size)) == node {
         return 1;
     }
     0

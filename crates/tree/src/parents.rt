@@ -1,20 +1,20 @@
 // The nodes' parents and depths.
-use super::MAX_DEPTH;
-use super::MAX_NODES;
 use super::NODE_SIZE;
 use super::bytes;
+use protocol::MAX_DEPTH;
+use protocol::MAX_NODES;
 ghost use mathlib.Core.Path.{_≡_};
 ghost use mathlib.Core.Bool.{_&&_};
 ghost use lib.Dec.{leb};
 ghost use Rattle.tree.specs.Seen.{nodeCount};
-ghost use Rattle.tree.specs.Check.{parentsIn, lineageSound};
+ghost use Rattle.tree.specs.Check.{parentsIn, parentsFit};
 
 // Whether the device names itself, each other node a parent before it, and none stands too deep. No tree has more nodes than
 // are counted here.
 pub(crate) fn parents_sound(tree: &[u8]) -> bool
-    ensures { λ r. ⌜ r ≡ (leb (nodeCount (now (tree .entry))) 64 && lineageSound (parentsIn (now (tree .entry)))) ⌝ }
+    ensures { λ r. ⌜ r ≡ (leb (nodeCount (now (tree .entry))) 64 && parentsFit (parentsIn (now (tree .entry)))) ⌝ }
 {
-    let nodes = bytes::wide(bytes::byte_at(tree, 0));
+    let nodes = word::wide(bytes::byte_at(tree, 0));
     if MAX_NODES < nodes {
         return false;
     }
@@ -28,12 +28,12 @@ pub(crate) fn parents_sound(tree: &[u8]) -> bool
     depths[0] = 1;
     let mut k = 1;
     while k < nodes {
-        let parent = bytes::wide(bytes::byte_at(tree, 2 + k * NODE_SIZE));
+        let parent = word::wide(bytes::byte_at(tree, 2 + k * NODE_SIZE));
         if k <= parent {
             return false;
         }
         let depth = depths[parent];
-        if MAX_DEPTH <= depth {
+        if MAX_DEPTH <= word::wide(depth) {
             return false;
         }
         depths[k] = depth + 1;

@@ -1,9 +1,9 @@
 // A property's numbers, and the texts of nodes and properties.
-use super::ENUMERATION;
 use super::NODE_SIZE;
 use super::PROPERTY_SIZE;
 use super::bytes;
 use super::texts;
+use protocol::ENUMERATION;
 ghost use mathlib.Core.Path.{_≡_};
 ghost use Prim.Native.Nat.{_+_, _<_, _≤_, _^_};
 ghost use mathlib.Core.List.{[]};
@@ -15,7 +15,7 @@ ghost use Rattle.protocol.specs.Tree.{nodeIn, propertyIn};
 ghost use Rattle.protocol.specs.Answer.{recordTexts};
 ghost use Rattle.tree.specs.Form.{propertiesStart};
 ghost use Rattle.tree.specs.Seen.{entries, propertySeen, seen, optionCount};
-ghost use Rattle.tree.specs.Lent.{FieldsAre};
+ghost use Rattle.tree.specs.Lookup.{FieldsAre};
 
 // What a property's record holds beside its texts.
 pub struct Fields {
@@ -77,14 +77,14 @@ pub fn at_most(signed: bool, m: u32, n: u32) -> bool
 pub fn property_count(tree: &[u8]) -> usize
     ensures { λ r. ⌜ r ≡ length (seen (now (tree .entry)) .properties) ⌝ }
 {
-    bytes::wide(bytes::byte_at(tree, 1))
+    word::wide(bytes::byte_at(tree, 1))
 }
 
 // Where the property records begin.
 pub(crate) fn properties_start(tree: &[u8]) -> usize
     ensures { λ r. ⌜ r ≡ propertiesStart (getD (now (tree .entry)) 0 0) ⌝ }
 {
-    2 + bytes::wide(bytes::byte_at(tree, 0)) * NODE_SIZE
+    2 + word::wide(bytes::byte_at(tree, 0)) * NODE_SIZE
 }
 
 // How many texts are the unit or options.
@@ -105,10 +105,10 @@ fn fields_of(bs: &[u8]) -> Fields
     Fields {
         node: bs[0],
         kind: bs[1],
-        min: bytes::word_of(bs[2], bs[3], bs[4], bs[5]),
-        max: bytes::word_of(bs[6], bs[7], bs[8], bs[9]),
-        attribute: bytes::half_of(bs[10], bs[11]),
-        format: bytes::half_of(bs[12], bs[13]),
+        min: word::word_of(bs[2], bs[3], bs[4], bs[5]),
+        max: word::word_of(bs[6], bs[7], bs[8], bs[9]),
+        attribute: word::half_of(bs[10], bs[11]),
+        format: word::half_of(bs[12], bs[13]),
     }
 }
 
@@ -130,7 +130,7 @@ fn cut_record(tree: &[u8], at: usize) -> [u8; 16]
 pub fn read_fields(tree: &[u8], place: usize) -> Fields
     ensures { λ r. ⌜ FieldsAre (propertyIn (seen (now (tree .entry))) place) r ⌝ }
 {
-    if bytes::wide(bytes::byte_at(tree, 1)) <= place {
+    if word::wide(bytes::byte_at(tree, 1)) <= place {
         return Fields {
             node: 0,
             kind: 0,
@@ -152,7 +152,7 @@ pub fn read_fields(tree: &[u8], place: usize) -> Fields
 pub fn put_name(tree: &[u8], node: usize, out: &mut [u8], at: usize) -> usize
     ensures { λ r. ⌜ Put at (fitting at (text (nodeIn (seen (now (tree .entry))) node .name)) (now (out .entry))) (now (out .entry)) r (now (out .exit)) ⌝ }
 {
-    if bytes::wide(bytes::byte_at(tree, 0)) <= node {
+    if word::wide(bytes::byte_at(tree, 0)) <= node {
         return texts::put_texts(tree, tree.len(), 1, out, at);
     }
     let from = bytes::half_at(tree, 3 + node * NODE_SIZE) as usize;
@@ -163,7 +163,7 @@ pub fn put_name(tree: &[u8], node: usize, out: &mut [u8], at: usize) -> usize
 pub fn put_record_texts(tree: &[u8], place: usize, out: &mut [u8], at: usize) -> usize
     ensures { λ r. ⌜ Put at (fitting at (recordTexts (propertyIn (seen (now (tree .entry))) place)) (now (out .entry))) (now (out .entry)) r (now (out .exit)) ⌝ }
 {
-    if bytes::wide(bytes::byte_at(tree, 1)) <= place {
+    if word::wide(bytes::byte_at(tree, 1)) <= place {
         return texts::put_texts(tree, tree.len(), 1, out, at);
     }
     let record = properties_start(tree) + place * PROPERTY_SIZE;

@@ -1,6 +1,8 @@
 // Texts in lent bytes, each ended by a zero: their end found, and copied.
 use super::Found;
 use super::bytes;
+use protocol::FIRST_CHARACTER;
+use protocol::LAST_CHARACTER;
 ghost use mathlib.Core.Path.{_≡_};
 ghost use Prim.Native.Nat.{_+_, _-_, _≤_, min};
 ghost use lib.ListN.{length, take, drop};
@@ -9,16 +11,16 @@ ghost use Rattle.protocol.specs.Tree.{isCharacter};
 ghost use Rattle.protocol.specs.Buffer.{Put, fitting};
 ghost use Rattle.tree.specs.Seen.{textsFrom};
 ghost use Rattle.tree.specs.Check.{charactersIn, textsEndIn};
-ghost use Rattle.tree.specs.Lent.{foundOf};
+ghost use Rattle.tree.specs.Lookup.{foundOf};
 
 // A character is 20h to 7Eh (document 01, The tree).
 fn is_character(b: u8) -> bool
     ensures { λ r. ⌜ r ≡ isCharacter b ⌝ }
 {
-    if b < 0x20 {
+    if b < FIRST_CHARACTER {
         return false;
     }
-    b <= 0x7E
+    b <= LAST_CHARACTER
 }
 
 // The place of the first byte from a place on that is no character, or the end. Two bytes are looked at in a round.

@@ -7,10 +7,10 @@ use borrow.Author.Needs.{needs}
 use lib.ListN.{length}
 use Rattle.protocol.specs.Tree.{propertyIn, cellIn, reading}
 use Rattle.tree.specs.Seen.{seen}
-use Rattle.tree.specs.Cells.{cellsIn}
-use Rattle.tree.specs.Lent.{isLent}
-use Rattle.tree.proofs.CellLaws.{lent-done}
-use Rattle.tree.proofs.ReadingLaws.{word-read, none-read}
+use Rattle.cells.specs.Cells.{cellsIn}
+use Rattle.cells.specs.Lent.{isLent}
+use Rattle.cells.proofs.CellLaws.{lent-done}
+use Rattle.cells.proofs.ReadingLaws.{word-read, none-read}
 use Rattle.pualirqiq.proofs.BackLaws.{reads-unsound, reads-missing, reads-none, reads-word}
 use Rattle.pualirqiq.proofs.pq_reading.Statement.{statement}
 use Rattle.pualirqiq.proofs.pq_reading.Tie as tie

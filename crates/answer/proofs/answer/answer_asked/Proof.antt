@@ -3,9 +3,9 @@ use mathlib.Core.Path.{_≡_}
 use borrow.Author.Needs.{needs}
 use borrow.Author.Tests.{not-true, not-false}
 use Rattle.tree.specs.Seen.{seen}
-use Rattle.tree.specs.Cells.{cellsForm, cellsIn}
-use Rattle.tree.proofs.CellLaws.{lent-form}
-use Rattle.answer.specs.Reply.{askedIn}
+use Rattle.cells.specs.Cells.{cellsForm, cellsIn}
+use Rattle.cells.proofs.CellLaws.{lent-form}
+use Rattle.answer.specs.Steps.{askedIn}
 use Rattle.answer.proofs.AnswerLaws.{refused, answers-as, is-disabled, not-asked, is-asked}
 use Rattle.answer.proofs.answer.answer_asked.Statement.{statement}
 use Rattle.answer.proofs.answer.answer_asked.Tie as tie

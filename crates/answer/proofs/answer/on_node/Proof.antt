@@ -6,10 +6,10 @@ use borrow.Author.Needs.{needs}
 use Rattle.protocol.specs.Tree.{propertyOf}
 use Rattle.protocol.proofs.AnswerLaws.{property-below}
 use Rattle.tree.specs.Seen.{seen}
-use Rattle.tree.specs.Cells.{cellsForm, cellsIn}
-use Rattle.tree.proofs.CellLaws.{lent-form}
+use Rattle.cells.specs.Cells.{cellsForm, cellsIn}
+use Rattle.cells.proofs.CellLaws.{lent-form}
 use Rattle.tree.proofs.FoundLaws.{found-at, found-none}
-use Rattle.answer.specs.Reply.{requestIn}
+use Rattle.answer.specs.Steps.{requestIn}
 use Rattle.answer.proofs.AnswerLaws.{node-short, refused, replied, answers-as, is-node, no-property, at-property}
 use Rattle.answer.proofs.answer.on_node.Statement.{statement}
 use Rattle.answer.proofs.answer.on_node.Tie as tie

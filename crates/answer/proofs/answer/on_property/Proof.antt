@@ -4,9 +4,9 @@ use native.Mathlib.Omega.{arith}
 use borrow.Author.Needs.{needs}
 use Rattle.protocol.specs.Numbers.{opRead}
 use Rattle.tree.specs.Seen.{seen}
-use Rattle.tree.specs.Cells.{cellsIn}
-use Rattle.tree.proofs.CellLaws.{lent-form}
-use Rattle.answer.specs.Reply.{requestIn}
+use Rattle.cells.specs.Cells.{cellsIn}
+use Rattle.cells.proofs.CellLaws.{lent-form}
+use Rattle.answer.specs.Steps.{requestIn}
 use Rattle.answer.proofs.AnswerLaws.{place-fits, record-short, replied, answers-as, is-record, is-reading, is-write}
 use Rattle.answer.proofs.answer.on_property.Statement.{statement}
 use Rattle.answer.proofs.answer.on_property.Tie as tie

@@ -4,10 +4,10 @@ use borrow.Author.Needs.{needs}
 use Rattle.protocol.specs.Tree.{Property, Cell, propertyIn, cellIn, reading}
 use Rattle.protocol.proofs.RuleLaws.{reading-some, reading-none}
 use Rattle.tree.specs.Seen.{seen}
-use Rattle.tree.specs.Cells.{cellsIn}
-use Rattle.tree.proofs.CellLaws.{lent-form}
-use Rattle.tree.proofs.ReadingLaws.{word-read, none-read}
-use Rattle.answer.specs.Reply.{requestIn}
+use Rattle.cells.specs.Cells.{cellsIn}
+use Rattle.cells.proofs.CellLaws.{lent-form}
+use Rattle.cells.proofs.ReadingLaws.{word-read, none-read}
+use Rattle.answer.specs.Steps.{requestIn}
 use Rattle.answer.proofs.AnswerLaws.{answers-as, refused, replied, read-refused, read-replied}
 use Rattle.answer.proofs.answer.on_read.Statement.{statement}
 use Rattle.answer.proofs.answer.on_read.Tie as tie

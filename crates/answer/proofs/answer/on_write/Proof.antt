@@ -6,9 +6,10 @@ use borrow.Author.Needs.{needs}
 use Rattle.protocol.specs.Tree.{propertyIn}
 use Rattle.protocol.specs.Answer.{Outcome, writeNumber, actionOf, cellsAfter, outcome, onWrite}
 use Rattle.tree.specs.Seen.{seen}
-use Rattle.tree.specs.Cells.{cellsForm, cellsIn}
-use Rattle.tree.proofs.CellLaws.{lent-form}
-use Rattle.answer.specs.Reply.{requestIn, meaning, actionNumber, Answers}
+use Rattle.cells.specs.Cells.{cellsForm, cellsIn}
+use Rattle.cells.proofs.CellLaws.{lent-form}
+use Rattle.answer.specs.Serve.{actionNumber}
+use Rattle.answer.specs.Steps.{requestIn, meaning, Answers}
 use Rattle.answer.proofs.AnswerLaws.{outcome-same, writes, saved-cells}
 use Rattle.answer.proofs.answer.on_write.Statement.{statement}
 use Rattle.answer.proofs.answer.on_write.Tie as tie

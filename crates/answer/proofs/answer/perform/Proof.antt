@@ -8,10 +8,10 @@ use lib.ListN.{length}
 use Rattle.protocol.specs.Tree.{nodeAt}
 use Rattle.request.proofs.WriteLaws.{part-size}
 use Rattle.tree.specs.Seen.{seen}
-use Rattle.tree.specs.Cells.{cellsForm, cellsIn}
-use Rattle.tree.proofs.CellLaws.{lent-form}
+use Rattle.cells.specs.Cells.{cellsForm, cellsIn}
+use Rattle.cells.proofs.CellLaws.{lent-form}
 use Rattle.tree.proofs.FoundLaws.{found-at, found-none}
-use Rattle.answer.specs.Reply.{requestIn}
+use Rattle.answer.specs.Steps.{requestIn}
 use Rattle.answer.proofs.ReplyLaws.{path-room}
 use Rattle.answer.proofs.AnswerLaws.{refused, replied, answers-as, is-detect, no-node, at-node}
 use Rattle.answer.proofs.answer.perform.Statement.{statement}

@@ -2,7 +2,7 @@
 use mathlib.Core.Path.{refl}
 use borrow.Author.Needs.{needs}
 use Rattle.protocol.specs.Bytes.{half, word}
-use Rattle.answer.specs.Reply.{numbersIn}
+use Rattle.answer.specs.Steps.{numbersIn}
 use Rattle.answer.proofs.reply.numbers.Statement.{statement}
 use Rattle.answer.proofs.reply.numbers.Tie as tie
 

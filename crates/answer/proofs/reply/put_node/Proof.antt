@@ -2,7 +2,7 @@
 use native.Mathlib.Omega.{arith}
 use borrow.Author.Needs.{needs}
 use Rattle.tree.specs.Seen.{seen}
-use Rattle.answer.specs.Reply.{requestIn}
+use Rattle.answer.specs.Steps.{requestIn}
 use Rattle.answer.proofs.ReplyLaws.{put-node-reply}
 use Rattle.answer.proofs.reply.put_node.Statement.{statement}
 use Rattle.answer.proofs.reply.put_node.Tie as tie

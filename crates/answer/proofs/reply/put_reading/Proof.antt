@@ -2,7 +2,7 @@
 use native.Mathlib.Omega.{arith}
 use borrow.Author.Needs.{needs}
 use Rattle.protocol.proofs.AnswerLaws.{read-size}
-use Rattle.answer.specs.Reply.{requestIn}
+use Rattle.answer.specs.Steps.{requestIn}
 use Rattle.answer.proofs.ReplyLaws.{path-short, put-read-reply}
 use Rattle.answer.proofs.reply.put_reading.Statement.{statement}
 use Rattle.answer.proofs.reply.put_reading.Tie as tie

@@ -3,7 +3,7 @@ use native.Mathlib.Omega.{arith}
 use borrow.Author.Needs.{needs}
 use Rattle.protocol.specs.Tree.{propertyIn}
 use Rattle.tree.specs.Seen.{seen}
-use Rattle.answer.specs.Reply.{requestIn}
+use Rattle.answer.specs.Steps.{requestIn}
 use Rattle.answer.proofs.ReplyLaws.{put-record-reply}
 use Rattle.answer.proofs.reply.put_record.Statement.{statement}
 use Rattle.answer.proofs.reply.put_record.Tie as tie

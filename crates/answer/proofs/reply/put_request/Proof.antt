@@ -3,7 +3,7 @@ use Prim.Native.Nat.{_≤_}
 use borrow.Author.Needs.{needs}
 use lib.ListN.{length}
 use Rattle.request.proofs.WriteLaws.{part-size}
-use Rattle.answer.specs.Reply.{requestIn}
+use Rattle.answer.specs.Steps.{requestIn}
 use Rattle.answer.proofs.ReplyLaws.{path-room, put-allowed}
 use Rattle.answer.proofs.reply.put_request.Statement.{statement}
 use Rattle.answer.proofs.reply.put_request.Tie as tie

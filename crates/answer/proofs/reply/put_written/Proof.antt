@@ -5,7 +5,7 @@ use borrow.Author.Needs.{needs}
 use lib.ListN.{length}
 use Rattle.protocol.specs.Answer.{writeReply}
 use Rattle.protocol.proofs.AnswerLaws.{write-size}
-use Rattle.answer.specs.Reply.{requestIn, meaning}
+use Rattle.answer.specs.Steps.{requestIn, meaning}
 use Rattle.answer.proofs.ReplyLaws.{path-short, put-write-reply, put-reasoned-reply}
 use Rattle.answer.proofs.reply.put_written.Statement.{statement}
 use Rattle.answer.proofs.reply.put_written.Tie as tie

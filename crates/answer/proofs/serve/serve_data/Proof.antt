@@ -29,8 +29,8 @@ whole c = sized-done (start-of (c .before .before .before) .args .request .now) 
 lent-number-requires : tie.Need-lent-number-requires
 lent-number-requires c κs = search needs
 
-turned-away-requires : tie.Need-turned-away-requires
-turned-away-requires c κs = search needs
+rejected-requires : tie.Need-rejected-requires
+rejected-requires c κs = search needs
 
 same-length : tie.Need-same-length
 same-length c = search needs
@@ -39,13 +39,13 @@ returns : tie.Need-returns
 returns c =
     let then1 = c .before in
     let start = start-of (then1 .before) in
-    serve-unlent (call start) (then1 .before .lent-number .ensures) (then1 .if1 .taken) (c .turned-away .ensures) (start .args .out .now)
+    serve-unlent (call start) (then1 .before .lent-number .ensures) (then1 .if1 .taken) (c .rejected .ensures) (start .args .out .now)
 
 size-number-requires : tie.Need-size-number-requires
 size-number-requires c κs = search needs
 
-turned-away-requires-2 : tie.Need-turned-away-requires-2
-turned-away-requires-2 c κs = search needs
+rejected-requires-2 : tie.Need-rejected-requires-2
+rejected-requires-2 c κs = search needs
 
 same-length-2 : tie.Need-same-length-2
 same-length-2 c = search needs
@@ -56,7 +56,7 @@ returns-2 c =
     let sized = then2 .before in
     let start = start-of (sized .before .before) in
     let bad = sized-refused (start .args .request .now) (sized .size-number .ensures) (then2 .if2 .taken) in
-    serve-refused (call start) (unrefused (sized .before)) (bad .0) (bad .1) (c .turned-away2 .ensures) (start .args .out .now)
+    serve-refused (call start) (unrefused (sized .before)) (bad .0) (bad .1) (c .rejected2 .ensures) (start .args .out .now)
 
 read-data-requires : tie.Need-read-data-requires
 read-data-requires c κs = search needs
@@ -98,11 +98,11 @@ serve-data-spec =
     tie.close
     (tie.spec
     lent-number-requires
-    turned-away-requires
+    rejected-requires
     same-length
     returns
     size-number-requires
-    turned-away-requires-2
+    rejected-requires-2
     same-length-2
     returns-2
     read-data-requires

@@ -46,8 +46,8 @@ within c =
 lent-number-requires : tie.Need-lent-number-requires
 lent-number-requires c κs = search needs
 
-turned-away-requires : tie.Need-turned-away-requires
-turned-away-requires c κs = search needs
+rejected-requires : tie.Need-rejected-requires
+rejected-requires c κs = search needs
 
 same-length : tie.Need-same-length
 same-length c = search needs
@@ -56,7 +56,7 @@ returns : tie.Need-returns
 returns c =
     let then1 = c .before in
     let start = start-of (then1 .before) in
-    serve-unlent (call start) (then1 .before .lent-number .ensures) (then1 .if1 .taken) (c .turned-away .ensures) (start .args .out .now)
+    serve-unlent (call start) (then1 .before .lent-number .ensures) (then1 .if1 .taken) (c .rejected .ensures) (start .args .out .now)
 
 read-serial-requires : tie.Need-read-serial-requires
 read-serial-requires c κs = search needs
@@ -64,8 +64,8 @@ read-serial-requires c κs = search needs
 is-frame-refusal-requires : tie.Need-is-frame-refusal-requires
 is-frame-refusal-requires c κs = search needs
 
-turned-away-requires-2 : tie.Need-turned-away-requires-2
-turned-away-requires-2 c κs = search needs
+rejected-requires-2 : tie.Need-rejected-requires-2
+rejected-requires-2 c κs = search needs
 
 same-length-2 : tie.Need-same-length-2
 same-length-2 c = search needs
@@ -78,7 +78,7 @@ returns-2 c =
     let read = refusal .before in
     let start = start-of (read .before .before) in
     let bad = row-of-string (call start .string) (early-frame (start .args .address) (start .args .s .now)) (read .read-serial .ensures) (refusal .is-frame-refusal .ensures) (then2 .if2 .taken) in
-    serve-refused (call start) (unrefused (read .before)) (bad .number) (bad .bad) (c .turned-away2 .ensures) (start .args .out .now)
+    serve-refused (call start) (unrefused (read .before)) (bad .number) (bad .bad) (c .rejected2 .ensures) (start .args .out .now)
 
 slice-aggregate-answer-asked : tie.Need-slice-aggregate-answer-asked
 slice-aggregate-answer-asked c = search needs
@@ -121,12 +121,12 @@ serve-serial-spec =
     tie.close
     (tie.spec
     lent-number-requires
-    turned-away-requires
+    rejected-requires
     same-length
     returns
     read-serial-requires
     is-frame-refusal-requires
-    turned-away-requires-2
+    rejected-requires-2
     same-length-2
     returns-2
     slice-aggregate-answer-asked

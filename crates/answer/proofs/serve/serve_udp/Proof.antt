@@ -39,8 +39,8 @@ before-answer c = c .before .before .before
 lent-number-requires : tie.Need-lent-number-requires
 lent-number-requires c κs = search needs
 
-turned-away-requires : tie.Need-turned-away-requires
-turned-away-requires c κs = search needs
+rejected-requires : tie.Need-rejected-requires
+rejected-requires c κs = search needs
 
 same-length : tie.Need-same-length
 same-length c = search needs
@@ -49,7 +49,7 @@ returns : tie.Need-returns
 returns c =
     let then1 = c .before in
     let start = start-of (then1 .before) in
-    serve-unlent (call start) (then1 .before .lent-number .ensures) (then1 .if1 .taken) (c .turned-away .ensures) (start .args .out .now)
+    serve-unlent (call start) (then1 .before .lent-number .ensures) (then1 .if1 .taken) (c .rejected .ensures) (start .args .out .now)
 
 read-udp-requires : tie.Need-read-udp-requires
 read-udp-requires c κs = search needs
@@ -57,8 +57,8 @@ read-udp-requires c κs = search needs
 is-frame-refusal-requires : tie.Need-is-frame-refusal-requires
 is-frame-refusal-requires c κs = search needs
 
-turned-away-requires-2 : tie.Need-turned-away-requires-2
-turned-away-requires-2 c κs = search needs
+rejected-requires-2 : tie.Need-rejected-requires-2
+rejected-requires-2 c κs = search needs
 
 same-length-2 : tie.Need-same-length-2
 same-length-2 c = search needs
@@ -71,7 +71,7 @@ returns-2 c =
     let read = refusal .before in
     let start = start-of (read .before .before) in
     let bad = row-of-string (call start .string) (early-datagram (start .args .datagram .now)) (read .read-udp .ensures) (refusal .is-frame-refusal .ensures) (then2 .if2 .taken) in
-    serve-refused (call start) (unrefused (read .before)) (bad .number) (bad .bad) (c .turned-away2 .ensures) (start .args .out .now)
+    serve-refused (call start) (unrefused (read .before)) (bad .number) (bad .bad) (c .rejected2 .ensures) (start .args .out .now)
 
 sub-answer-asked : tie.Need-sub-answer-asked
 sub-answer-asked c = omega (arith, unrefused (else-of (c .before)) .roomy)
@@ -131,12 +131,12 @@ serve-udp-spec =
     tie.close
     (tie.spec
     lent-number-requires
-    turned-away-requires
+    rejected-requires
     same-length
     returns
     read-udp-requires
     is-frame-refusal-requires
-    turned-away-requires-2
+    rejected-requires-2
     same-length-2
     returns-2
     sub-answer-asked

@@ -2,7 +2,7 @@
 use mathlib.Core.Path.{sym, ap}
 use borrow.Author.Needs.{needs}
 use Rattle.protocol.specs.Answer.{saveByte}
-use Rattle.answer.specs.Reply.{meaning}
+use Rattle.answer.specs.Steps.{meaning}
 use Rattle.answer.proofs.write.save_byte.Statement.{statement}
 use Rattle.answer.proofs.write.save_byte.Tie as tie
 

@@ -8,7 +8,8 @@ use lib.Seq.{length-take-le}
 use Rattle.request.proofs.WriteLaws.{part-size}
 use Rattle.protocol.specs.Numbers.{roomData}
 use Rattle.answer.specs.Serve.{serveData}
-use Rattle.console.specs.Bench.{served, ServesLines}
+use Rattle.console.specs.Bench.{served}
+use Rattle.console.specs.Steps.{ServesLines}
 use Rattle.console.proofs.StepLaws.{front-within, lined}
 use borrow.Author.Needs.{needs}
 use Rattle.console.proofs.bench.serve_lines.Statement.{statement}

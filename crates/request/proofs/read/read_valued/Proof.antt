@@ -25,24 +25,36 @@ returns c =
     let start = zero .before .before in
     valued-other (start .args .op) (start .args .bs .now) (zero .before-zero .ensures) (then1 .if1 .taken) (c .refusal .ensures)
 
-add-after : tie.Need-add-after
-add-after c = search needs
+add-word-of : tie.Need-add-word-of
+add-word-of c = search needs
 
-sub-word-of : tie.Need-sub-word-of
-sub-word-of c = search needs
+shared-slice-read-word-of : tie.Need-shared-slice-read-word-of
+shared-slice-read-word-of c = search needs
 
-part-word-of-start : tie.Need-part-word-of-start
-part-word-of-start c = search needs
+add-word-of-2 : tie.Need-add-word-of-2
+add-word-of-2 c = search needs
 
-part-word-of-end : tie.Need-part-word-of-end
-part-word-of-end c = search needs
+shared-slice-read-word-of-2 : tie.Need-shared-slice-read-word-of-2
+shared-slice-read-word-of-2 c = search needs
+
+add-word-of-3 : tie.Need-add-word-of-3
+add-word-of-3 c = search needs
+
+shared-slice-read-word-of-3 : tie.Need-shared-slice-read-word-of-3
+shared-slice-read-word-of-3 c = search needs
+
+add-word-of-4 : tie.Need-add-word-of-4
+add-word-of-4 c = search needs
+
+shared-slice-read-word-of-4 : tie.Need-shared-slice-read-word-of-4
+shared-slice-read-word-of-4 c = search needs
 
 word-of-requires : tie.Need-word-of-requires
 word-of-requires c κs = search needs
 
 slice-aggregate-read-indexed : tie.Need-slice-aggregate-read-indexed
 slice-aggregate-read-indexed c =
-    let zero = c .before .before .before .before in
+    let zero = c .before .before .before .before .before .before .before in
     let bs = zero .before .before .args .bs .now in
     part-size (zero .before-zero .result) bs (omega (arith, zero .before-zero .ensures, zero-within bs))
 
@@ -52,7 +64,7 @@ read-indexed-requires c κs = search needs
 returns-2 : tie.Need-returns-2
 returns-2 c =
     let word = c .before .before in
-    let else1 = word .before .before in
+    let else1 = word .before .before .before .before .before in
     let zero = else1 .before in
     let start = zero .before .before in
     valued-whole (start .args .op) (start .args .bs .now) (zero .before-zero .ensures) (else1 .if1 .left)
@@ -66,10 +78,14 @@ read-valued-spec =
     add-if1
     refusal-requires
     returns
-    add-after
-    sub-word-of
-    part-word-of-start
-    part-word-of-end
+    add-word-of
+    shared-slice-read-word-of
+    add-word-of-2
+    shared-slice-read-word-of-2
+    add-word-of-3
+    shared-slice-read-word-of-3
+    add-word-of-4
+    shared-slice-read-word-of-4
     word-of-requires
     slice-aggregate-read-indexed
     read-indexed-requires

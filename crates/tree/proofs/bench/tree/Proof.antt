@@ -2,12 +2,12 @@
 use mathlib.Core.Path.{refl}
 use Rattle.protocol.specs.Bytes.{half, word, text, texts}
 use Rattle.protocol.specs.Bench.{benchTree}
-use Rattle.tree.specs.Form.{allTexts, allRecords, nodeRecord, propertyRecord, formOf}
+use Rattle.tree.specs.Form.{allTexts, allRecords, nodeRecord, propertyRecord, treeForm}
 use Rattle.tree.proofs.bench.tree.Statement.{statement}
 use Rattle.tree.proofs.bench.tree.Tie as tie
 
 returns : tie.Need-returns
-unfolding formOf allTexts allRecords nodeRecord propertyRecord text texts half word benchTree
+unfolding treeForm allTexts allRecords nodeRecord propertyRecord text texts half word benchTree
 returns c = refl
 
 pub tree-spec : {M : Type 1} → statement M

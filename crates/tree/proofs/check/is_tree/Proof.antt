@@ -10,8 +10,8 @@ use lib.Dec.{leb}
 use Rattle.protocol.specs.Numbers.{maxNodes}
 use Rattle.tree.specs.Form.{nodeSize, propertySize, textsStart}
 use Rattle.tree.specs.Seen.{nodeCount, propertyCount, isTree}
-use Rattle.tree.specs.Check.{countsFit, parentsIn, lineageSound, nodeEnd, recordsEnd, checked}
-use Rattle.tree.specs.Lent.{foundOf}
+use Rattle.tree.specs.Check.{countsFit, parentsIn, parentsFit, nodeEnd, recordsEnd, checked}
+use Rattle.tree.specs.Lookup.{foundOf}
 use Rattle.tree.proofs.StepLaws.{counts, uncounted, names-within, parentless, nameless, labelless, all-read}
 use Rattle.tree.proofs.CheckLaws.{checked-exact}
 use Rattle.tree.proofs.check.is_tree.Statement.{statement}
@@ -27,7 +27,7 @@ counts-hold c = sym (c .before .counts-fit .ensures) ∙ not-false (c .before .c
 
 parents-hold : (c : tie.Else2)
     → let bs = c .before .before .before .before .before .args .tree .now in
-    (leb (nodeCount bs) maxNodes && lineageSound (parentsIn bs)) ≡ true
+    (leb (nodeCount bs) maxNodes && parentsFit (parentsIn bs)) ≡ true
 parents-hold c = sym (c .before .parents-sound .ensures) ∙ not-false (c .before .parents-sound .result) (c .if2 .left)
 
 -- Where the texts begin, and the end of the names.

@@ -4,11 +4,11 @@ use native.Mathlib.Omega.{arith}
 use mathlib.Core.Path.{_≡_, refl, sym, ap, _∙_}
 use borrow.Author.Tests.{not-true, not-false}
 use borrow.Author.Needs.{needs}
-use Rattle.protocol.specs.Numbers.{maxTexts}
+use Rattle.protocol.specs.Numbers.{maxTexts, nameRoom}
 use Rattle.tree.specs.Form.{propertySize, propertiesStart}
 use Rattle.tree.specs.Seen.{halfAt, nodeCount}
-use Rattle.tree.specs.Check.{textsEndIn, nameRoom}
-use Rattle.tree.specs.Lent.{foundOf}
+use Rattle.tree.specs.Check.{textsEndIn}
+use Rattle.tree.specs.Lookup.{foundOf}
 use Rattle.tree.proofs.FoundLaws.{found-at}
 use Rattle.tree.proofs.SameLaws.{differ}
 use Rattle.tree.proofs.TextLaws.{texts-within}

@@ -3,7 +3,7 @@ use borrow.Author.Needs.{needs}
 use native.Mathlib.Omega.{arith}
 use mathlib.Core.Path.{ap, _∙_}
 use Rattle.protocol.specs.Tree.{numbered}
-use Rattle.tree.specs.Lent.{foundOf}
+use Rattle.tree.specs.Lookup.{foundOf}
 use Rattle.tree.proofs.FindLaws.{children-in, children-small}
 use Rattle.tree.proofs.find.child.Statement.{statement}
 use Rattle.tree.proofs.find.child.Tie as tie

@@ -6,7 +6,7 @@ use mathlib.Core.Path.{ap, sym, _∙_}
 use lib.ListN.{length, getD}
 use Rattle.protocol.specs.Tree.{childOf}
 use Rattle.tree.specs.Seen.{seen}
-use Rattle.tree.specs.Lent.{foundOf}
+use Rattle.tree.specs.Lookup.{foundOf}
 use Rattle.tree.proofs.FoundLaws.{found-at, found-none}
 use Rattle.tree.proofs.FindLaws.{Walking, walk-empty, walk-other, walk-begins, walk-lost, walk-more, walk-ends}
 use Rattle.tree.proofs.find.node.Statement.{statement}

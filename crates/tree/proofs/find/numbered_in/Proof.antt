@@ -2,7 +2,7 @@
 use Prim.Native.Nat.{_-_}
 use native.Mathlib.Omega.{arith}
 use mathlib.Core.Path.{ap, sym}
-use Rattle.tree.specs.Lent.{foundOf}
+use Rattle.tree.specs.Lookup.{foundOf}
 use Rattle.tree.proofs.FindLaws.{Seeking, seek-none, seek-begins, seek-fits, seek-found, seek-more, seek-ends}
 use Rattle.tree.proofs.find.numbered_in.Statement.{statement}
 use Rattle.tree.proofs.find.numbered_in.Tie as tie

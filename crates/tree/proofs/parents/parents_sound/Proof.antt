@@ -64,11 +64,15 @@ returns-4 c =
 array-read-depth : tie.Need-array-read-depth Inv-loop μ-loop
 array-read-depth c = omega arith
 
+wide-requires-3 : tie.Need-wide-requires-3 Inv-loop μ-loop
+wide-requires-3 c κs = search needs
+
 returns-5 : tie.Need-returns-5 Inv-loop μ-loop
 returns-5 c =
-    let loop = c .before .before .before .before .before in
-    descend-deep (loop .loop .inv) (c .before .before .before .before .loop-test .taken)
-    (c .before .before .wide2 .ensures ∙ c .before .before .before .byte-at3 .ensures) (c .before .if4 .left) (c .if5 .taken)
+    let read = c .before .before in
+    let loop = read .before .before .before .before in
+    descend-deep (loop .loop .inv) (read .before .before .before .loop-test .taken)
+    (read .before .wide2 .ensures ∙ read .before .before .byte-at3 .ensures) (read .if4 .left) (omega (arith, c .if5 .taken, c .before .wide3 .ensures))
 
 add-depths : tie.Need-add-depths Inv-loop μ-loop
 add-depths c = omega arith
@@ -84,9 +88,10 @@ loop-less c = omega arith
 
 loop-again : tie.Need-loop-again Inv-loop μ-loop
 loop-again c =
-    let loop = c .before .before .before .before .before in
-    descend-on (loop .loop .inv) (c .before .before .before .before .loop-test .taken)
-    (c .before .before .wide2 .ensures ∙ c .before .before .before .byte-at3 .ensures) (c .before .if4 .left) (c .if5 .left)
+    let read = c .before .before in
+    let loop = read .before .before .before .before in
+    descend-on (loop .loop .inv) (read .before .before .before .loop-test .taken)
+    (read .before .wide2 .ensures ∙ read .before .before .byte-at3 .ensures) (read .if4 .left) (omega (arith, c .if5 .left, c .before .wide3 .ensures))
 
 returns-6 : tie.Need-returns-6 Inv-loop μ-loop
 returns-6 c =
@@ -113,6 +118,7 @@ parents-sound-spec =
     wide-requires-2
     returns-4
     array-read-depth
+    wide-requires-3
     returns-5
     add-depths
     array-write-depths-2

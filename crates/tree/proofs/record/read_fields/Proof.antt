@@ -9,7 +9,7 @@ use Rattle.protocol.specs.Tree.{propertyIn}
 use Rattle.tree.specs.declared.record.Fields.{Fields}
 use Rattle.tree.specs.Form.{propertySize}
 use Rattle.tree.specs.Seen.{propertyCount, propertySeen, seen}
-use Rattle.tree.specs.Lent.{FieldsAre}
+use Rattle.tree.specs.Lookup.{FieldsAre}
 use Rattle.tree.proofs.FieldLaws.{property-near, fields-at, fields-none, fields-whole, fields-cut}
 use Rattle.tree.proofs.record.read_fields.Statement.{statement}
 use Rattle.tree.proofs.record.read_fields.Tie as tie

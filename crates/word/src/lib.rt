@@ -1,0 +1,36 @@
+// Numbers made of bytes, the high byte first.
+ghost use mathlib.Core.Path.{_≡_};
+ghost use Prim.Native.Nat.{_+_, _*_, _<_, _^_};
+ghost use mathlib.Core.List.{[], _∷_};
+ghost use Rattle.protocol.specs.Bytes.{number};
+
+// A byte as a place or a count.
+pub fn wide(b: u8) -> usize
+    ensures { λ r. ⌜ r ≡ b ⌝ }
+{
+    b as usize
+}
+
+// A number of 16 bits.
+pub fn half_of(high: u8, low: u8) -> u16
+    ensures { λ r. ⌜ r ≡ number (high ∷ low ∷ []) ⌝ }
+{
+    high as u16 * 256 + low as u16
+}
+
+// A number with one byte more behind it.
+fn with_byte(high: u32, low: u8) -> u32
+    requires { ⌜ high < 2 ^ 24 ⌝ }
+    ensures { λ r. ⌜ r ≡ high * 2 ^ 8 + low ⌝ }
+{
+    high * 256 + low as u32
+}
+
+// A number of 32 bits.
+pub fn word_of(first: u8, second: u8, third: u8, last: u8) -> u32
+    ensures { λ r. ⌜ r ≡ number (first ∷ second ∷ third ∷ last ∷ []) ⌝ }
+{
+    let two = with_byte(first as u32, second);
+    let three = with_byte(two, third);
+    with_byte(three, last)
+}
