@@ -2,5 +2,3 @@
 pub mod TableLaws
 pub mod WriteLaws
 pub mod ReadLaws
-pub mod Exact
-pub mod Demand3
