@@ -5,7 +5,7 @@ use Prim.Native.Nat.{ℕ, _≤_}
 use mathlib.Core.Logic.{_↔_}
 use mathlib.Core.Path.{_≡_, refl, sym, ap, ap₂, subst, _∙_}
 use mathlib.Core.Bool.{Bool, true, false, cond}
-use mathlib.Core.List.{List, []}
+use mathlib.Core.List.{List}
 use borrow.Author.Tests.{eq-eqb, ne-eqb, le-ltb}
 use lib.ListN.{length, take, drop, take-append-drop}
 use lib.Seq.{take-at, drop-at}
@@ -21,40 +21,7 @@ use Rattle.protocol.proofs.RequestLaws.{serial-exact, udp-exact, serialForm-inj
 use Rattle.request.specs.Asked.{requestOf, found, padded}
 use Rattle.request.specs.Write.{writeRequest}
 use Rattle.pualirqiq.specs.Calls.{Handed, fieldsOf, HandsBack}
-
--- An output that begins with some bytes and is else as lent: what a call with 0 wrote.
-pub record Wrote (form : List ℕ) (old : List ℕ) (n size : ℕ) (new : List ℕ) : Type 0 where
-  pub number : n ≡ done
-  pub len : size ≡ length form
-  pub front : take size new ≡ form
-  pub rest : drop size new ≡ drop size old
-
--- What is no request is not written: 10 for an op that the table lacks, else 11, and nothing.
-pub record WroteNothing (q : Request) (old : List ℕ) (n size : ℕ) (new : List ℕ) : Type 0 where
-  pub number : n ≡ cond (ltb opWriteExtended (q .op)) unknownCommand badParameter
-  pub len : size ≡ 0
-  pub bytes : new ≡ old
-
--- Requests in a written form, read and written out by calls that keep their promises.
-pub record Requests (form : Request → List ℕ) (read : List ℕ → Asked) (least : ℕ) : Type 0 where
-  -- a string is read as a request exactly when it is that request's written form
-  pub read-exactly : (s : List ℕ) → Bytes s → (old new : Handed) (n : ℕ) → HandsBack (read s) old n new → (q : Request)
-      → ((n ≡ done) × (new ≡ fieldsOf q)) ↔ (Allowed q × (s ≡ form q))
-  -- what is no request's written form is not read with 0, and nothing is handed back
-  pub not-read : (s : List ℕ) → Bytes s → (old new : Handed) (n : ℕ) → HandsBack (read s) old n new
-      → ((q : Request) → Allowed q → s ≡ form q → ⊥) → (n ≡ done → ⊥) × (new ≡ old)
-  -- a request that the table allows is written in its form
-  pub written : (q : Request) (old new : List ℕ) (n size : ℕ) → least ≤ length old → Allowed q
-      → Emits (writeRequest least (length old) form q) old n size new → Wrote (form q) old n size new
-  -- any other is not written
-  pub not-written : (q : Request) (old new : List ℕ) (n size : ℕ) → least ≤ length old → (Allowed q → ⊥)
-      → Emits (writeRequest least (length old) form q) old n size new → WroteNothing q old n size new
-  -- what was written is read back
-  pub read-back : (q : Request) (old new : List ℕ) (n size : ℕ) → least ≤ length old → Bytes new → Allowed q
-      → Emits (writeRequest least (length old) form q) old n size new
-      → (before after : Handed) (m : ℕ) → HandsBack (read (take size new)) before m after → (m ≡ done) × (after ≡ fieldsOf q)
-  -- no string is the written form of two requests
-  pub once : (q r : Request) → Allowed q → Allowed r → form q ≡ form r → q ≡ r
+use Rattle.demands.specs.Requests.{Wrote, WroteNothing, Requests}
 
 -- The fields that are handed back tell the request.
 padded-injective : (p q : List ℕ) → padded p ≡ padded q → length p ≡ length q → p ≡ q
@@ -70,8 +37,8 @@ fields-injective q r e =
 
 -- Reading.
 module _ (form : Request → List ℕ) (read : List ℕ → Asked)
-  (exact : (s : List ℕ) → Bytes s → (q : Request) → (read s ≡ found q) ↔ (Allowed q × (s ≡ form q)))
-  (s : List ℕ) (all : Bytes s) {old new : Handed} {n : ℕ} (h : HandsBack (read s) old n new) where
+    (exact : (s : List ℕ) → Bytes s → (q : Request) → (read s ≡ found q) ↔ (Allowed q × (s ≡ form q)))
+    (s : List ℕ) (all : Bytes s) {old new : Handed} {n : ℕ} (h : HandsBack (read s) old n new) where
   found-when : n ≡ done → read s ≡ found (read s .request)
   found-when d = ap (λ m. record { number = m; request = read s .request }) (sym (h .number) ∙ d)
 

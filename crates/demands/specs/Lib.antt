@@ -1,0 +1,3 @@
+-- What the demands of document 01 say of the calls.
+pub mod Requests
+pub mod Demand3
