@@ -18,14 +18,14 @@ use Rattle.protocol.specs.Bytes.{Bytes, every, word, number}
 use Rattle.protocol.specs.Buffer.{putAt}
 use Rattle.protocol.specs.Tree.{Property, Tree, Cell, cellIn, cellsSound, isLive, propertyIn, posted, post}
 use Rattle.protocol.proofs.TestLaws.{and-left, and-right, and-both}
-use Rattle.protocol.proofs.ListLaws.{number-word, word-number, bytes-cons, bytes-drop}
+use Rattle.protocol.proofs.ListLaws.{number-word, word-number, bytes-cons, bytes-drop, bytes-none, bytes-append}
 use Rattle.protocol.proofs.BufferLaws.{set-put, length-put}
 use Rattle.tree.specs.Seen.{wordAt, recordsFrom, same, seen, isTree}
 use Rattle.cells.specs.Cells.{cellSize, markOf, cellForm, cellsForm, cellSeen, cellsIn, hasCells, cellsOf, withWord, withMark}
 use Rattle.cells.specs.Lent.{isLent, lentNumber, postIn, Updates}
 use Rattle.tree.proofs.FoundLaws.{if-some}
 use Rattle.tree.proofs.RecordLaws.{records-length, records-at}
-use Rattle.tree.proofs.NumberLaws.{bytes-none, bytes-append, word-bytes, word-fits, word-behind}
+use Rattle.tree.proofs.NumberLaws.{word-bytes, word-fits, word-behind}
 use Rattle.tree.proofs.SameLaws.{same-eq, same-refl}
 
 -- The words are of 32 bits.

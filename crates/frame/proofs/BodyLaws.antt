@@ -13,7 +13,7 @@ use Rattle.protocol.specs.Buffer.{Put}
 use Rattle.protocol.proofs.ListLaws.{sum-snoc}
 use Rattle.protocol.proofs.FrameLaws.{double-snoc, length-double}
 use Rattle.protocol.proofs.BufferLaws.{put-nil, puts, length-put}
-use Rattle.frame.specs.Body.{PutBody}
+use Rattle.frame.specs.Steps.{PutBody}
 
 -- After i bytes of the data.
 pub record Writing (bs old : List ℕ) (from first : ℕ) (out : List ℕ) (at total i : ℕ) : Type 0 where

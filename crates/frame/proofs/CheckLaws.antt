@@ -7,13 +7,13 @@ use mathlib.Core.Path.{_≡_, refl, sym, ap, ap₂, subst, _∙_}
 use mathlib.Core.Bool.{Bool, true, false, cond, _&&_}
 use mathlib.Core.List.{List, [], _∷_, _++_, append-assoc, append-nil}
 use mathlib.Core.Option.{Option, none, some}
-use borrow.Author.Tests.{eq-eqb, ne-eqb, eqb-true, lt-ltb, le-ltb, ltb-true, ltb-false}
+use borrow.Author.Tests.{eq-eqb, ne-eqb, eqb-true, eqb-false, lt-ltb, le-ltb, ltb-true, ltb-false}
 use lib.ListN.{length, getD, take, drop, length-take, length-append, drop-of-length-le}
-use lib.Seq.{take-all, drop-cons, drop-drop, drop-append-seam}
+use lib.Seq.{take-all, take-nil, drop-cons, drop-drop, drop-append-seam}
 use lib.Dec.{eqb, ltb}
 use Rattle.protocol.specs.Numbers.{done, noPreamble, badPair, tooShort, tooLong, badChecksum, otherAddress, DLE, STX, ETX, maxData, maxContent, byteEnd}
 use Rattle.protocol.specs.Bytes.{Bytes, sum}
-use Rattle.protocol.specs.Frame.{refused, received, doubled, double, checksum, contentOf, wrap, frame, undouble, judge, judgeWhole, readFrame, addressIn, dataIn, checksumIn}
+use Rattle.protocol.specs.Frame.{refused, received, doubled, double, checksum, contentOf, wrap, frame, undouble, judge, judgeWhole, readFrame, cut, addressIn, dataIn, checksumIn}
 use Rattle.protocol.specs.Buffer.{over, Put, Emits}
 use Rattle.protocol.proofs.TestLaws.{eqb-same}
 use Rattle.protocol.proofs.ListLaws.{init-last, sum-snoc, bytes-left, bytes-drop}
@@ -22,7 +22,7 @@ use Rattle.protocol.proofs.BufferLaws.{put-nil, puts, length-put, over-put, ove
 use Rattle.frame.specs.declared.read.Tally.{Tally}
 use Rattle.frame.specs.declared.read.Scan.the-variants.{Whole, Broken}
 use Rattle.frame.specs.declared.read.Checked.{Checked}
-use Rattle.frame.specs.Read.{Tallies, ScanOf, failed, passed, judged, contentFrom, Checks}
+use Rattle.frame.specs.Steps.{Tallies, ScanOf, failed, passed, judged, contentFrom, Checks}
 
 -- One content byte more, of a list that begins with it.
 content-step : (n b : ℕ) (l : List ℕ) → l ≡ b ∷ drop 1 l → contentFrom (suc n) l ≡ b ∷ contentFrom n (drop (length (doubled b)) l)
@@ -170,12 +170,16 @@ module _ (s : List ℕ) (from n : ℕ) (old : List ℕ) (room : n ≤ length old
       ∙ append-nil (c .bytes) in
       subst (λ l. Put 0 l old k out) (sym is) (c .put)
 
--- Numbers that need no content.
-checks-refused : (a : ℕ) (s : List ℕ) (n : ℕ) → readFrame a s ≡ refused n → Checks a s (failed n)
-checks-refused a s n e =
+-- Numbers that need no content. A refusal has no start.
+no-start : (a n : ℕ) → ltb 0 n ≡ true → cond (eqb n done) (2 + length (doubled a)) 0 ≡ 0
+no-start a n l = rw (ne-eqb n done (λ q. omega (arith, ltb-true 0 n l, q)))
+
+checks-refused : (a : ℕ) (s : List ℕ) (n : ℕ) → ltb 0 n ≡ true → readFrame a s ≡ refused n → Checks a s (failed n)
+checks-refused a s n l e =
     record {
       number = sym (ap (λ r. r .number) e);
       len = sym (ap (λ r. length (r .payload)) e);
+      start = sym (ap (λ r. cond (eqb (r .number) done) (2 + length (doubled a)) 0) e ∙ no-start a n l);
       content = content-zero (drop 0 s) ∙ sym (ap (λ r. r .payload) e);
     }
 
@@ -184,7 +188,7 @@ and-false true = refl
 and-false false = refl
 
 checks-unopened : (a : ℕ) (s : List ℕ) → isOpened s ≡ false → Checks a s (failed noPreamble)
-checks-unopened a s h = checks-refused a s noPreamble (readFrame-by a s false h)
+checks-unopened a s h = checks-refused a s noPreamble refl (readFrame-by a s false h)
 
 pub checks-one : (a : ℕ) (s : List ℕ) → length s < 2 → Checks a s (failed noPreamble)
 checks-one a [] h = checks-unopened a [] refl
@@ -207,7 +211,7 @@ unfolding judgeWhole
 checks-broken a s h = go (undouble false (drop 2 s)) refl
   where
     go : (o : Option (List ℕ)) → undouble false (drop 2 s) ≡ o → ScanOf o Broken → Checks a s (failed badPair)
-    go none e w = checks-refused a s badPair (readFrame-by a s true h ∙ ap (judgeWhole a) e)
+    go none e w = checks-refused a s badPair refl (readFrame-by a s true h ∙ ap (judgeWhole a) e)
     go (some c) e w = absurd w
 
 -- The checksum is right exactly where all bytes of the content sum up to 255.
@@ -238,6 +242,7 @@ checks-passed a s c e h =
     record {
       number = sym (ap (λ r. r .number) e);
       len = sym (ap length payload ∙ size);
+      start = sym (ap (λ r. cond (eqb (r .number) done) (2 + length (doubled a)) 0) e);
       content =
           ap₂ (λ n l. contentFrom n (drop (2 + length (doubled a)) l)) (sym size) written
           ∙ frame-content a (dataIn c)
@@ -246,39 +251,62 @@ checks-passed a s c e h =
 
 -- A content and its tally are judged alike: both refused with a number, or both passed.
 pub data Alike (a : ℕ) (c : List ℕ) (t : Tally) : Type 0 where
-  both-refused : (n : ℕ) → ltb 0 n ≡ true → judge a c ≡ refused n → judged a t ≡ failed n → Alike a c t
-  both-passed : 3 ≤ length c → judge a c ≡ received (dataIn c) → judged a t ≡ passed a (length c) → Alike a c t
+  both-refused : (n : ℕ) → ltb 0 n ≡ true → judgeWhole a (some c) ≡ refused n → judged a t ≡ failed n → Alike a c t
+  both-passed : 3 ≤ length c → length c ≤ maxContent → judgeWhole a (some c) ≡ received (dataIn c) → judged a t ≡ passed a (length c)
+      → Alike a c t
 
-module _ (a : ℕ) (c : List ℕ) (t : Tally) (w : Tallies c t) (all : Bytes c) (most : length c ≤ maxContent) where
-  long? : ltb maxContent (t .count) ≡ false
-  long? = le-ltb maxContent (t .count) (omega (arith, most, w .count))
+module _ (a : ℕ) (c : List ℕ) (t : Tally) (w : Tallies c t) (all : Bytes c) where
+  module _ (most : length c ≤ maxContent) where
+    long? : ltb maxContent (t .count) ≡ false
+    long? = le-ltb maxContent (t .count) (omega (arith, most, w .count))
 
-  long-enough : ltb (t .count) 3 ≡ false → 3 ≤ length c
-  long-enough e = omega (arith, ltb-false (t .count) 3 e, w .count)
+    long-enough : ltb (t .count) 3 ≡ false → 3 ≤ length c
+    long-enough e = omega (arith, ltb-false (t .count) 3 e, w .count)
 
-  content-by : ltb (t .count) 3 ≡ false → (u v : Bool) → eqb (t .sum) 255 ≡ u → eqb (t .first) a ≡ v
-      → judge a c ≡ cond u (cond v (received (dataIn c)) (refused otherAddress)) (refused badChecksum)
-  content-by e u v g h =
-      judge-by a c false u v
-      (le-ltb (length c) 3 (long-enough e))
-      (summed-same c (omega (arith, long-enough e)) (all (length c - 1)) ∙ ap (λ n. eqb n 255) (sym (w .total)) ∙ g)
-      (ap (λ n. eqb n a) (sym (w .first)) ∙ h)
+    whole-is : judgeWhole a (some c) ≡ judge a c
+    whole-is = judgeWhole-by a c false (le-ltb maxContent (length c) most)
+
+    content-by : ltb (t .count) 3 ≡ false → (u v : Bool) → eqb (t .sum) 255 ≡ u → eqb (t .first) a ≡ v
+        → judgeWhole a (some c) ≡ cond u (cond v (received (dataIn c)) (refused otherAddress)) (refused badChecksum)
+    content-by e u v g h =
+        whole-is
+        ∙ judge-by a c false u v
+        (le-ltb (length c) 3 (long-enough e))
+        (summed-same c (omega (arith, long-enough e)) (all (length c - 1)) ∙ ap (λ n. eqb n 255) (sym (w .total)) ∙ g)
+        (ap (λ n. eqb n a) (sym (w .first)) ∙ h)
+
+    short-alike : Alike a c t
+    short-alike = go (ltb (t .count) 3) refl (eqb (t .sum) 255) refl (eqb (t .first) a) refl
+      where
+        go : (p : Bool) → ltb (t .count) 3 ≡ p → (u : Bool) → eqb (t .sum) 255 ≡ u → (v : Bool) → eqb (t .first) a ≡ v → Alike a c t
+        go true e u g v h =
+            both-refused tooShort refl
+            (whole-is ∙ judge-by a c true (isSummed c) (eqb (addressIn c) a) (ap (λ n. ltb n 3) (sym (w .count)) ∙ e) refl refl)
+            (judged-by a t true false u v e long? g h)
+        go false e false g v h =
+            both-refused badChecksum refl (content-by e false v g h) (judged-by a t false false false v e long? g h)
+        go false e true g false h =
+            both-refused otherAddress refl (content-by e true false g h) (judged-by a t false false true false e long? g h)
+        go false e true g true h =
+            both-passed (long-enough e) most (content-by e true true g h)
+            (judged-by a t false false true true e long? g h ∙ ap (passed a) (w .count))
+
+  long-alike : maxContent < length c → Alike a c t
+  long-alike h =
+      both-refused tooLong refl
+      (judgeWhole-by a c true (lt-ltb maxContent (length c) h))
+      (judged-by a t false true (eqb (t .sum) 255) (eqb (t .first) a)
+      (le-ltb (t .count) 3 (omega (arith, h, w .count)))
+      (lt-ltb maxContent (t .count) (omega (arith, h, w .count)))
+      refl
+      refl)
 
   pub alike : Alike a c t
-  alike = go (ltb (t .count) 3) refl (eqb (t .sum) 255) refl (eqb (t .first) a) refl
+  alike = go (ltb maxContent (length c)) refl
     where
-      go : (p : Bool) → ltb (t .count) 3 ≡ p → (u : Bool) → eqb (t .sum) 255 ≡ u → (v : Bool) → eqb (t .first) a ≡ v → Alike a c t
-      go true e u g v h =
-          both-refused tooShort refl
-          (judge-by a c true (isSummed c) (eqb (addressIn c) a) (ap (λ n. ltb n 3) (sym (w .count)) ∙ e) refl refl)
-          (judged-by a t true false u v e long? g h)
-      go false e false g v h =
-          both-refused badChecksum refl (content-by e false v g h) (judged-by a t false false false v e long? g h)
-      go false e true g false h =
-          both-refused otherAddress refl (content-by e true false g h) (judged-by a t false false true false e long? g h)
-      go false e true g true h =
-          both-passed (long-enough e) (content-by e true true g h)
-          (judged-by a t false false true true e long? g h ∙ ap (passed a) (w .count))
+      go : (q : Bool) → ltb maxContent (length c) ≡ q → Alike a c t
+      go true e = long-alike (ltb-true maxContent (length c) e)
+      go false e = short-alike (ltb-false maxContent (length c) e)
 
 module _ (a : ℕ) (s c : List ℕ) (t : Tally) (open? : isOpened s ≡ true) (is : undouble false (drop 2 s) ≡ some c)
     (w : Tallies c t) (all : Bytes s) where
@@ -291,30 +319,12 @@ module _ (a : ℕ) (s c : List ℕ) (t : Tally) (open? : isOpened s ≡ true) (i
       (bytes-left (double c) (DLE ∷ ETX ∷ [])
       (subst Bytes (double-undouble (drop 2 s) false c is) (bytes-drop 2 s all)))
 
-  checks-short : length c ≤ maxContent → Alike a c t → Checks a s (judged a t)
-  checks-short h (both-refused n l e f) =
-      rw f (checks-refused a s n (reads ∙ judgeWhole-by a c false (le-ltb maxContent (length c) h) ∙ e))
-  checks-short h (both-passed l e f) =
-      rw f (checks-passed a s c (reads ∙ judgeWhole-by a c false (le-ltb maxContent (length c) h) ∙ e) l)
-
-  checks-long : maxContent < length c → Checks a s (judged a t)
-  checks-long h =
-      rw
-      (judged-by a t false true (eqb (t .sum) 255) (eqb (t .first) a)
-      (le-ltb (t .count) 3 (omega (arith, h, w .count)))
-      (lt-ltb maxContent (t .count) (omega (arith, h, w .count)))
-      refl
-      refl)
-      (checks-refused a s tooLong (reads ∙ judgeWhole-by a c true (lt-ltb maxContent (length c) h)))
-
   checks-tally : Checks a s (judged a t)
-  checks-tally = go (ltb maxContent (length c)) refl
+  checks-tally = go (alike a c t w content-bytes)
     where
-      go : (q : Bool) → ltb maxContent (length c) ≡ q → Checks a s (judged a t)
-      go true f = checks-long (ltb-true maxContent (length c) f)
-      go false f =
-          let h : length c ≤ maxContent = ltb-false maxContent (length c) f in
-          checks-short h (alike a c t w content-bytes h)
+      go : Alike a c t → Checks a s (judged a t)
+      go (both-refused n l e f) = rw f (checks-refused a s n l (reads ∙ e))
+      go (both-passed l m e f) = rw f (checks-passed a s c (reads ∙ e) l)
 
 -- What a pass over an opened string finds decides what is known of it.
 pub checks-whole : (a : ℕ) (s : List ℕ) (t : Tally) → isOpened s ≡ true → Bytes s → ScanOf (undouble false (drop 2 s)) (Whole t)
@@ -325,26 +335,41 @@ checks-whole a s t h all w {r} e = subst (Checks a s) (sym e) (go (undouble fals
     go none is w = absurd w
     go (some c) is w = checks-tally a s c t h is w all
 
--- What `read_frame` emits: nothing on a refusal, and the data that was copied.
-pub emits-refusal : (a : ℕ) (s old : List ℕ) {r : Checked} → Checks a s r → (r .number ≡ done → ⊥)
-    → Emits (readFrame a s) old (r .number) 0 old
-emits-refusal a s old c h =
-    let nothing : readFrame a s .payload ≡ [] = readFrame-refused a s (λ e. h (c .number ∙ e)) in
+-- What `read_front` emits: nothing on a refusal, and else the data that was copied.
+pub front-refused : (a : ℕ) (s old : List ℕ) {r : Checked} → Checks a s r → (r .number ≡ done → ⊥)
+    → Emits (cut (length old) (readFrame a s)) old (r .number) 0 old
+front-refused a s old c h =
+    let nothing : take (length old) (readFrame a s .payload) ≡ [] =
+    ap (take (length old)) (readFrame-refused a s (λ e. h (c .number ∙ e))) ∙ take-nil (length old) in
     record {
       number = c .number;
       len = sym (ap length nothing);
       bytes = sym (ap (λ l. over l old) nothing ∙ over-nil old);
     }
 
-pub emits-data : (a : ℕ) (s : List ℕ) {r : Checked} {old new : List ℕ} {size : ℕ} → Checks a s r → r .number ≡ done
-    → Put 0 (contentFrom (r .len) (drop (r .start) s)) old size new → Emits (readFrame a s) old done size new
-emits-data a s {r} {old} {new} {size} c h p =
-    let q : Put 0 (readFrame a s .payload) old size new = subst (λ l. Put 0 l old size new) (c .content) p in
+pub front-data : (a : ℕ) (s : List ℕ) {r : Checked} {old new : List ℕ} {size : ℕ} → Checks a s r → r .number ≡ done
+    → Put 0 (take (length old) (contentFrom (r .len) (drop (r .start) s))) old size new
+    → Emits (cut (length old) (readFrame a s)) old done size new
+front-data a s {r} {old} {new} {size} c h p =
+    let q : Put 0 (take (length old) (readFrame a s .payload)) old size new =
+    subst (λ l. Put 0 (take (length old) l) old size new) (c .content) p in
     record {
       number = sym h ∙ c .number;
       len = omega (arith, q .next);
-      bytes = q .bytes ∙ over-put (readFrame a s .payload) old;
+      bytes = q .bytes ∙ over-put (take (length old) (readFrame a s .payload)) old;
     }
 
-pub data-short : (a : ℕ) (s : List ℕ) {r : Checked} → Checks a s r → r .number ≡ done → r .len ≤ maxData
-data-short a s c h = omega (arith, c .len, readFrame-only a s (sym (c .number) ∙ h) .size .most)
+-- Where there is room for all data, nothing is cut off.
+data-short : (a : ℕ) (s : List ℕ) → length (readFrame a s .payload) ≤ maxData
+data-short a s = go (eqb (readFrame a s .number) done) refl
+  where
+    go : (t : Bool) → eqb (readFrame a s .number) done ≡ t → length (readFrame a s .payload) ≤ maxData
+    go true e = readFrame-only a s (eqb-true (readFrame a s .number) done e) .size .most
+    go false e = omega (arith, ap length (readFrame-refused a s (eqb-false (readFrame a s .number) done e)))
+
+pub front-whole : (a : ℕ) (s : List ℕ) {old new : List ℕ} {n size : ℕ} → maxData ≤ length old
+    → Emits (cut (length old) (readFrame a s)) old n size new → Emits (readFrame a s) old n size new
+front-whole a s {old} {new} {n} {size} h e =
+    let all : take (length old) (readFrame a s .payload) ≡ readFrame a s .payload =
+    take-all (length old) (readFrame a s .payload) (omega (arith, data-short a s, h)) in
+    record { number = e .number; len = e .len ∙ ap length all; bytes = e .bytes ∙ ap (λ l. over l old) all }

@@ -3,9 +3,5 @@ pub mod BodyLaws
 pub mod WriteLaws
 pub mod ReadLaws
 pub mod CheckLaws
+pub mod ContentLaws
 pub mod UdpLaws
-pub mod PlaceLaws
-pub mod FeedLaws
-pub mod CloseLaws
-pub mod CallLaws
-pub mod DeliveryLaws

@@ -20,7 +20,7 @@ use Rattle.frame.specs.declared.read.Tally.{Tally}
 use Rattle.frame.specs.declared.read.Scan.the-variants.{Whole, Broken}
 use Rattle.frame.specs.declared.read.Piece.{Piece}
 use Rattle.frame.specs.declared.read.Piece.the-variants.{Lone, Doubled, End, Bad}
-use Rattle.frame.specs.Read.{ending, pair, pieceOf, Tallies, OneMore, ScanOf}
+use Rattle.frame.specs.Steps.{ending, pair, pieceOf, Tallies, OneMore, ScanOf}
 
 -- The piece at the front, by the first byte.
 pieceOf-lone : (b : ℕ) (bs : List ℕ) → eqb b DLE ≡ false → pieceOf (b ∷ bs) ≡ Lone b

@@ -1,5 +1,2 @@
--- What the helpers of this crate leave behind. What the calls promise is stated over the definitions of `protocol`.
-pub mod Body
-pub mod Read
-pub mod Stream
-pub mod Delivery
+-- What the helpers of this crate leave behind. What its public functions promise is stated over the definitions of `protocol`.
+pub mod Steps

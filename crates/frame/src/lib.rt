@@ -3,7 +3,6 @@ pub mod buffer;
 mod checksum;
 pub mod read;
 pub mod size;
-pub mod stream;
 pub mod udp;
 pub mod write;
 

@@ -19,10 +19,11 @@ ghost use mathlib.Core.Path.{_≡_};
 ghost use Prim.Native.Nat.{_+_, _≤_, _<_, _^_};
 ghost use lib.ListN.{length, take, drop};
 ghost use mathlib.Core.Bool.{false};
-ghost use Rattle.protocol.specs.Frame.{doubled, undouble, readFrame, ifRoom};
+ghost use mathlib.Core.Option.{some};
+ghost use Rattle.protocol.specs.Frame.{doubled, undouble, judgeWhole, readFrame, cut, ifRoom};
 ghost use Rattle.protocol.specs.Numbers.{roomData};
 ghost use Rattle.protocol.specs.Buffer.{Put, Emits};
-ghost use Rattle.frame.specs.Read.{pieceOf, OneMore, ScanOf, judged, Checks, contentFrom};
+ghost use Rattle.frame.specs.Steps.{pieceOf, Tallies, OneMore, ScanOf, judged, Checks, contentFrom};
 
 // What stands at a place after 10 02: a lone byte, a doubled 10h, the 10 03 at the very end, or anything else.
 pub(crate) enum Piece {
@@ -65,7 +66,7 @@ pub(crate) struct Tally {
 }
 
 // The tally with one byte more.
-pub(crate) fn with_byte(t: Tally, b: u8) -> Tally
+fn add_byte(t: Tally, b: u8) -> Tally
     requires { ⌜ (t .count < 2 ^ 63) × (t .sum < 2 ^ 8) ⌝ }
     ensures { λ r. ⌜ OneMore t b r ⌝ }
 {
@@ -103,11 +104,11 @@ fn scan_string(s: &[u8]) -> Scan
     while i < s.len() {
         match piece_at(s, i) {
             Piece::Lone(b) => {
-                t = with_byte(t, b);
+                t = add_byte(t, b);
                 i += 1;
             }
             Piece::Doubled => {
-                t = with_byte(t, DLE);
+                t = add_byte(t, DLE);
                 i += 2;
             }
             Piece::End => return Scan::Whole(t),
@@ -119,7 +120,7 @@ fn scan_string(s: &[u8]) -> Scan
 
 // What is known of a string that was read for an address: its number and, with 0, how long its data is and where in the
 // string the data starts. With any other number both are 0.
-pub struct Checked {
+pub(crate) struct Checked {
     pub number: u8,
     pub len: usize,
     pub start: usize,
@@ -136,7 +137,7 @@ fn width(b: u8) -> usize
 }
 
 // A content judged by its tally: 4, 5, 6, 7 or 0.
-pub(crate) fn judge(address: u8, t: Tally) -> Checked
+fn judge(address: u8, t: Tally) -> Checked
     ensures { λ r. ⌜ r ≡ judged address t ⌝ }
 {
     let mut r = Checked {
@@ -165,9 +166,8 @@ pub(crate) fn judge(address: u8, t: Tally) -> Checked
     r
 }
 
-// A serial string read for an address, with no output: the number, and where the data stands. What read_frame, and a reader
-// of requests, begin with.
-pub fn check_frame(address: u8, s: &[u8]) -> Checked
+// A serial string read for an address, with no output: the number, and where the data stands.
+fn check_frame(address: u8, s: &[u8]) -> Checked
     ensures { λ r. ⌜ Checks address (now (s .entry)) r ⌝ }
 {
     let unopened = Checked {
@@ -196,7 +196,7 @@ pub fn check_frame(address: u8, s: &[u8]) -> Checked
 
 // Content bytes of a string, from a place on, copied to the front of an output: n of them, or as many as there are. Returns
 // how many.
-pub(crate) fn copy_content(s: &[u8], from: usize, n: usize, out: &mut [u8]) -> usize
+fn copy_content(s: &[u8], from: usize, n: usize, out: &mut [u8]) -> usize
     requires { ⌜ n ≤ length (now out) ⌝ }
     ensures { λ r. ⌜ Put 0 (contentFrom n (drop from (now (s .entry)))) (now (out .entry)) r (now (out .exit)) ⌝ }
 {
@@ -220,7 +220,7 @@ pub(crate) fn copy_content(s: &[u8], from: usize, n: usize, out: &mut [u8]) -> u
 }
 
 // The same into an output of any length: as many as there is room for.
-pub fn copy_fitting(s: &[u8], from: usize, n: usize, out: &mut [u8]) -> usize
+fn copy_fitting(s: &[u8], from: usize, n: usize, out: &mut [u8]) -> usize
     ensures { λ r. ⌜ Put 0 (take (length (now (out .entry))) (contentFrom n (drop from (now (s .entry))))) (now (out .entry)) r (now (out .exit)) ⌝ }
 {
     let room = out.len();
@@ -228,6 +228,20 @@ pub fn copy_fitting(s: &[u8], from: usize, n: usize, out: &mut [u8]) -> usize
         return copy_content(s, from, room, out);
     }
     copy_content(s, from, n, out)
+}
+
+// A serial string read for an address, and as many bytes of its data as there is room for put at the front of a lent output:
+// 2, 3, 4, 5, 6, 7 or 0.
+pub fn read_front(address: u8, s: &[u8], out: &mut [u8]) -> Written
+    ensures { λ r. ⌜ Emits (cut (length (now (out .entry))) (readFrame address (now (s .entry)))) (now (out .entry)) (r .number) (r .len) (now (out .exit)) ⌝ }
+{
+    let checked = check_frame(address, s);
+    let number = checked.number;
+    if number != DONE {
+        return Written { number, len: 0 };
+    }
+    let len = copy_fitting(s, checked.start, checked.len, out);
+    Written { number: DONE, len }
 }
 
 // A serial string read for an address into a lent output: 8, 2, 3, 4, 5, 6, 7 or 0.
@@ -240,13 +254,44 @@ pub fn read_frame(address: u8, s: &[u8], out: &mut [u8]) -> Written
             len: 0,
         };
     }
-    let checked = check_frame(address, s);
+    read_front(address, s, out)
+}
+
+// The tally of a content that lies in one piece.
+fn tally_of(content: &[u8]) -> Tally
+    ensures { λ r. ⌜ Tallies (now (content .entry)) r ⌝ }
+{
+    let mut t = Tally {
+        count: 0,
+        sum: 0,
+        first: 0,
+    };
+    let mut i = 0;
+    while i < content.len() {
+        t = add_byte(t, content[i]);
+        i += 1;
+    }
+    t
+}
+
+// A content that lies in one piece judged for an address, and its data put at the front of a lent output where it is good: 8,
+// 4, 5, 6, 7 or 0.
+pub fn read_content(address: u8, content: &[u8], out: &mut [u8]) -> Written
+    ensures { λ r. ⌜ Emits (ifRoom roomData (length (now (out .entry))) (judgeWhole address (some (now (content .entry))))) (now (out .entry)) (r .number) (r .len) (now (out .exit)) ⌝ }
+{
+    let room = out.len();
+    if room < ROOM_DATA {
+        return Written {
+            number: NO_ROOM,
+            len: 0,
+        };
+    }
+    let checked = judge(address, tally_of(content));
     let number = checked.number;
     if number != DONE {
         return Written { number, len: 0 };
     }
-    let start = checked.start;
-    let size = checked.len;
-    let len = copy_content(s, start, size, out);
+    let end = checked.len + 1;
+    let len = buffer::put_all(&content[1..end], out, 0);
     Written { number: DONE, len }
 }

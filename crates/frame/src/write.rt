@@ -14,7 +14,7 @@ ghost use lib.ListN.{length};
 ghost use Rattle.protocol.specs.Numbers.{roomSerial};
 ghost use Rattle.protocol.specs.Frame.{frame, writeFrame, ifRoom};
 ghost use Rattle.protocol.specs.Buffer.{Put, Emits};
-ghost use Rattle.frame.specs.Body.{PutBody};
+ghost use Rattle.frame.specs.Steps.{PutBody};
 
 // The place after what was put, and the sum of the bytes before doubling.
 pub(crate) struct Body {

@@ -4,12 +4,12 @@ use Prim.Native.Nat.{ℕ, zero, suc, _+_, _-_, _*_, _/_, _%_, _^_, _<_, _≤_}
 use native.Mathlib.Omega.{arith}
 use native.Mathlib.Nat.{not-suc-le-zero, le-refl, div-div-eq-div-mul}
 use native.Mathlib.Decide.{decLt}
-use mathlib.Core.Path.{_≡_, sym, ap, _∙_}
+use mathlib.Core.Path.{_≡_, sym, ap, subst, _∙_}
 use mathlib.Core.List.{List, [], _∷_, _++_}
-use lib.ListN.{length, getD, take, drop, List·getD-append, List·getD-eq-default}
+use lib.ListN.{length, getD, take, drop, take-append-drop, List·getD-append, List·getD-eq-default}
 use lib.Seq.{take-suc, take-length, getD-drop}
 use Rattle.protocol.specs.Numbers.{byteEnd, wordEnd}
-use Rattle.protocol.specs.Bytes.{Bytes, word, number, numberAfter, sum}
+use Rattle.protocol.specs.Bytes.{Bytes, half, word, number, numberAfter, sum}
 
 -- A list that is not empty is all but its last entry, and that entry.
 pub init-last : (bs : List ℕ) → 1 ≤ length bs → bs ≡ take (length bs - 1) bs ++ getD bs (length bs - 1) 0 ∷ []
@@ -68,6 +68,23 @@ bytes-left x y all i = go (decLt i (length x))
 pub bytes-cons : (b : ℕ) (bs : List ℕ) → b < byteEnd → Bytes bs → Bytes (b ∷ bs)
 bytes-cons b bs h all zero = h
 bytes-cons b bs h all (suc i) = all i
+
+pub bytes-none : Bytes []
+bytes-none i = omega arith
+
+pub bytes-append : (x y : List ℕ) → Bytes x → Bytes y → Bytes (x ++ y)
+bytes-append [] y p q = q
+bytes-append (b ∷ x) y p q = bytes-cons b (x ++ y) (p 0) (bytes-append x y (λ i. p (suc i)) q)
+
+pub bytes-take : (n : ℕ) (bs : List ℕ) → Bytes bs → Bytes (take n bs)
+bytes-take n bs all = bytes-left (take n bs) (drop n bs) (subst Bytes (sym (take-append-drop n bs)) all)
+
+-- A number of 16 bits is written as bytes.
+pub half-bytes : (n : ℕ) → Bytes (half n)
+unfolding half
+half-bytes n zero = omega arith
+half-bytes n (suc zero) = omega arith
+half-bytes n (suc (suc i)) = omega arith
 
 -- The sum with one byte more, mod 256.
 pub sum-snoc : (bs : List ℕ) (b : ℕ) → sum (bs ++ b ∷ []) ≡ sum bs + b

@@ -123,6 +123,10 @@ readFrame address s =
     (judgeWhole address (undouble false (drop 2 s)))
     (refused noPreamble)
 
+-- As many bytes of the data as there is room for; the number stays.
+abbrev pub cut : ℕ → Received → Received
+cut room r = record { number = r .number; payload = take room (r .payload) }
+
 -- A datagram read: rows 2, 4 and 5, and the data, which is the datagram itself from byte 4 on.
 abbrev pub fourZeros : List ℕ → Bool
 fourZeros s = leb 4 (length s) && every (λ b. eqb b 0) (take 4 s)

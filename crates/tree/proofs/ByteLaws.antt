@@ -14,10 +14,10 @@ use Rattle.protocol.specs.Bytes.{Bytes, every, half, word, text, texts}
 use Rattle.protocol.specs.Tree.{Node, Property, Tree, isCharacter, isText, isName, parentsFrom, parentsSound, liveSound, propertySound, sound}
 use Rattle.protocol.specs.Answer.{recordTexts}
 use Rattle.protocol.proofs.TestLaws.{and-left, and-right, and-both}
-use Rattle.protocol.proofs.ListLaws.{bytes-cons}
+use Rattle.protocol.proofs.ListLaws.{bytes-cons, bytes-none, bytes-append, half-bytes}
 use Rattle.tree.specs.Form.{allTexts, allRecords, nodeTexts, nodeRecord, propertyRecord, namesOf, labelsOf, namesStart, treeForm}
 use Rattle.tree.specs.Check.{kindFits, fieldsFit}
-use Rattle.tree.proofs.NumberLaws.{bytes-none, bytes-append, half-bytes, word-bytes}
+use Rattle.tree.proofs.NumberLaws.{word-bytes}
 use Rattle.tree.proofs.PropertyLaws.{fits-by, Kept, kept}
 use Rattle.tree.proofs.NodeLaws.{name-text, nodeGood}
 use Rattle.tree.proofs.FormLaws.{Sound, sound-parts}

@@ -9,23 +9,10 @@ use lib.ListN.{length, getD, take, drop}
 use lib.Seq.{drop-cons, getD-drop}
 use Rattle.protocol.specs.Numbers.{byteEnd, halfEnd, wordEnd}
 use Rattle.protocol.specs.Bytes.{Bytes, half, word, number, numberAfter}
-use Rattle.protocol.proofs.ListLaws.{word-number, bytes-cons}
+use Rattle.protocol.proofs.ListLaws.{word-number}
 use Rattle.tree.specs.Seen.{entries, halfAt, wordAt}
 
--- Lists of bytes, and that numbers are written as bytes.
-pub bytes-none : Bytes []
-bytes-none i = omega arith
-
-pub bytes-append : (x y : List ℕ) → Bytes x → Bytes y → Bytes (x ++ y)
-bytes-append [] y p q = q
-bytes-append (b ∷ x) y p q = bytes-cons b (x ++ y) (p 0) (bytes-append x y (λ i. p (suc i)) q)
-
-pub half-bytes : (n : ℕ) → Bytes (half n)
-unfolding half
-half-bytes n zero = omega arith
-half-bytes n (suc zero) = omega arith
-half-bytes n (suc (suc i)) = omega arith
-
+-- A number of 32 bits is written as bytes.
 pub word-bytes : (n : ℕ) → Bytes (word n)
 unfolding word
 word-bytes n zero = omega arith

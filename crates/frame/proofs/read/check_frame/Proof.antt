@@ -6,7 +6,7 @@ use borrow.Author.Needs.{needs}
 use lib.ListN.{drop}
 use Rattle.protocol.specs.Frame.{undouble}
 use Rattle.protocol.proofs.FrameLaws.{isOpened}
-use Rattle.frame.specs.Read.{ScanOf}
+use Rattle.frame.specs.Steps.{ScanOf}
 use Rattle.frame.proofs.CheckLaws.{checks-one, checks-first, checks-second, both-open, checks-broken, checks-whole}
 use Rattle.frame.proofs.read.check_frame.Statement.{statement}
 use Rattle.frame.proofs.read.check_frame.Tie as tie

@@ -3,7 +3,7 @@ use native.Mathlib.Omega.{arith}
 use borrow.Author.Tests.{lt-ltb, le-ltb, eq-eqb, ne-eqb}
 use borrow.Author.Needs.{needs}
 use Rattle.protocol.proofs.FrameLaws.{length-doubled}
-use Rattle.frame.specs.Read.{judged}
+use Rattle.frame.specs.Steps.{judged}
 use Rattle.frame.proofs.read.judge.Statement.{statement}
 use Rattle.frame.proofs.read.judge.Tie as tie
 

@@ -29,19 +29,19 @@ piece-at-requires c κs = omega arith
 enum-known-b : tie.Need-enum-known-b Inv-loop μ-loop
 enum-known-b c = search needs
 
-with-byte-requires : tie.Need-with-byte-requires Inv-loop μ-loop
-with-byte-requires c κs = few (c .before .before .before .before)
+add-byte-requires : tie.Need-add-byte-requires Inv-loop μ-loop
+add-byte-requires c κs = few (c .before .before .before .before)
 
 -- A doubled 10h is passed.
-doubled : (c : tie.After-with-byte2 Inv-loop μ-loop)
+doubled : (c : tie.After-add-byte2 Inv-loop μ-loop)
     → let at-loop = c .before .before .before .before .before in
-    Scanning (at-loop .before .before .args .s .now) (c .with-byte2 .result) (at-loop .loop .i + 2)
+    Scanning (at-loop .before .before .args .s .now) (c .add-byte2 .result) (at-loop .loop .i + 2)
 doubled c =
     let told = c .before in
     let piece = told .before .before in
     let at-loop = piece .before .before in
     doubled-on (at-loop .before .before .args .s .now) (at-loop .loop .i) (at-loop .loop .inv)
-    (sym (told .enum-told .given .1) ∙ piece .piece-at .ensures) (c .with-byte2 .ensures)
+    (sym (told .enum-told .given .1) ∙ piece .piece-at .ensures) (c .add-byte2 .ensures)
 
 add-i : tie.Need-add-i Inv-loop μ-loop
 add-i c = omega arith
@@ -55,13 +55,13 @@ loop-again c =
     let piece = told .before .before in
     let at-loop = piece .before .before in
     lone-on (at-loop .before .before .args .s .now) (at-loop .loop .i) (at-loop .loop .inv)
-    (sym (told .b .given .1) ∙ piece .piece-at .ensures) (c .with-byte .ensures)
+    (sym (told .b .given .1) ∙ piece .piece-at .ensures) (c .add-byte .ensures)
 
 enum-told : tie.Need-enum-told Inv-loop μ-loop
 enum-told c = search needs
 
-with-byte-requires-2 : tie.Need-with-byte-requires-2 Inv-loop μ-loop
-with-byte-requires-2 c κs = few (c .before .before .before)
+add-byte-requires-2 : tie.Need-add-byte-requires-2 Inv-loop μ-loop
+add-byte-requires-2 c κs = few (c .before .before .before)
 
 add-i-2 : tie.Need-add-i-2 Inv-loop μ-loop
 add-i-2 c = omega (arith, doubled c .within)
@@ -104,12 +104,12 @@ scan-string-spec =
     loop-holds
     piece-at-requires
     enum-known-b
-    with-byte-requires
+    add-byte-requires
     add-i
     loop-less
     loop-again
     enum-told
-    with-byte-requires-2
+    add-byte-requires-2
     add-i-2
     loop-less-2
     loop-again-2
