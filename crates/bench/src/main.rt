@@ -4,7 +4,7 @@ use libc::STDIN_FILENO;
 use libc::STDOUT_FILENO;
 ghost use mathlib.Core.Path.{_≡_};
 ghost use mathlib.Core.Bool.{true};
-ghost use Rattle.frame.specs.Stream.{hasForm};
+ghost use Rattle.stream.specs.State.{hasForm};
 ghost use Rattle.console.specs.Bench.{Progress};
 
 // How many bytes a step took, and whether its lines could be written.

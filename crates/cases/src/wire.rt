@@ -47,21 +47,21 @@ pub(crate) fn write_datagram_no_room(name: &[u8], payload: &[u8]) {
 pub(crate) fn feed(name: &[u8], address: u8, bytes: &[u8]) {
     let mut state = [0u8; 261];
     let mut out = [0u8; 256];
-    let fed = frame::stream::feed(&mut state, address, bytes, &mut out);
+    let fed = stream::feed::feed(&mut state, address, bytes, &mut out);
     show::front(name, fed.number, &out, fed.len);
 }
 
 pub(crate) fn feed_no_room(name: &[u8], address: u8, bytes: &[u8]) {
     let mut state = [0u8; 261];
     let mut out = [0u8; 255];
-    let fed = frame::stream::feed(&mut state, address, bytes, &mut out);
+    let fed = stream::feed::feed(&mut state, address, bytes, &mut out);
     show::front(name, fed.number, &out, fed.len);
 }
 
 pub(crate) fn feed_unsound(name: &[u8], address: u8, bytes: &[u8]) {
     let mut state = [4u8; 261];
     let mut out = [0u8; 256];
-    let fed = frame::stream::feed(&mut state, address, bytes, &mut out);
+    let fed = stream::feed::feed(&mut state, address, bytes, &mut out);
     show::front(name, fed.number, &out, fed.len);
 }
 
@@ -69,10 +69,10 @@ pub(crate) fn feed_unsound(name: &[u8], address: u8, bytes: &[u8]) {
 pub(crate) fn feed_twice(name: &[u8], address: u8, first: &[u8], second: &[u8]) {
     let mut state = [0u8; 261];
     let mut out = [0u8; 256];
-    let fed = frame::stream::feed(&mut state, address, first, &mut out);
+    let fed = stream::feed::feed(&mut state, address, first, &mut out);
     show::front(name, fed.number, &out, fed.len);
     let mut after = [0u8; 256];
-    let then = frame::stream::feed(&mut state, address, second, &mut after);
+    let then = stream::feed::feed(&mut state, address, second, &mut after);
     show::front(name, then.number, &after, then.len);
 }
 

@@ -12,15 +12,10 @@ use Rattle.protocol.specs.Numbers.{done, noFrame, roomData}
 use Rattle.protocol.specs.Stream as rule
 use Rattle.protocol.specs.Stream.{Stream, Event, step}
 use Rattle.protocol.proofs.TestLaws.{if-both}
-use Rattle.frame.specs.Stream.{FedBy, Ran, fedBy, fed, hasForm, standing, runFrom, next, keep}
-use Rattle.frame.proofs.FeedLaws.{form-of, stands}
-use Rattle.frame.proofs.DeliveryLaws.{Stood, Follows, follows}
+use Rattle.stream.specs.State.{hasForm, standing, keep}
+use Rattle.stream.specs.Feed.{FedBy, Ran, fedBy, fed, runFrom, next}
+use Rattle.stream.proofs.DeliveryLaws.{state-of, Follows, follows}
 use Rattle.console.specs.Bench.{benchAddress, textRoom, shows, stepped, Stepped, Steps, Progress}
-
-standing-stood : (st : List ℕ) → hasForm st ≡ true → Stood (standing st) st
-standing-stood st h =
-    let f = form-of st h in
-    record { size = f .size; few = omega (arith, stands st f .len, stands st f .most); form = h; is = refl }
 
 -- A run takes something where there is something.
 next-some : (e : Event) (after : Stream) (st : List ℕ) (r : Ran) → 0 < next e after st r .taken
@@ -64,7 +59,7 @@ progress room state cells bytes {old} {state′} {cells′} {new} {count} {size}
     let is : f ≡ fedBy benchAddress r = fed-is state bytes h in
     let n : count ≡ r .taken = s′ .taken ∙ k .taken ∙ ap (λ x. x .taken) is in
     let left : state′ ≡ r .bytes = s′ .state ∙ k .state ∙ ap (λ x. x .state) is in
-    let w : Follows (standing state) state bytes r = follows bytes (standing state) state (standing-stood state h) in
+    let w : Follows (standing state) state bytes r = follows bytes (standing state) state (state-of state h) in
     record {
       form = ap hasForm left ∙ w .stands .form;
       fits = omega (arith, n, w .fits);

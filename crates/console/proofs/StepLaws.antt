@@ -12,7 +12,7 @@ use Rattle.protocol.specs.Numbers.{done, noFrame, roomSerial, roomData}
 use Rattle.protocol.specs.Frame.{Received, writeFrame, ifRoom}
 use Rattle.protocol.specs.Buffer.{Put, Emits, over}
 use Rattle.protocol.proofs.BufferLaws.{over-put, over-nil}
-use Rattle.frame.specs.Stream.{FedBy, fed, Feeds}
+use Rattle.stream.specs.Feed.{FedBy, fed, Feeds}
 use Rattle.answer.specs.Serve.{Service, Serves}
 use Rattle.console.specs.Text.{lines}
 use Rattle.console.specs.Bench.{benchAddress, textRoom, served, serialReply, shows, stepped, Steps}

@@ -9,7 +9,8 @@ use Rattle.protocol.specs.Numbers.{done, noFrame, roomData}
 use Rattle.protocol.specs.Frame.{writeFrame}
 use Rattle.protocol.specs.Buffer.{over}
 use Rattle.protocol.specs.Bench.{benchTree}
-use Rattle.frame.specs.Stream.{FedBy, fed, hasForm}
+use Rattle.stream.specs.State.{hasForm}
+use Rattle.stream.specs.Feed.{FedBy, fed}
 use Rattle.tree.specs.Form.{treeForm}
 use Rattle.answer.specs.Serve.{Service, serveData}
 use Rattle.console.specs.Text.{lines}

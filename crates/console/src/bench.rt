@@ -43,7 +43,7 @@ pub fn step(state: &mut [u8], cells: &mut [u8], bytes: &[u8], out: &mut [u8]) ->
         return Shown { taken: 0, len: 0 };
     }
     let mut payload = [0u8; 256];
-    let fed = frame::stream::feed(state, ADDRESS, bytes, &mut payload);
+    let fed = stream::feed::feed(state, ADDRESS, bytes, &mut payload);
     let taken = fed.taken;
     let size = fed.len;
     let number = fed.number;

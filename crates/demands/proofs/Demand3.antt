@@ -1,7 +1,7 @@
 -- Demand 3 of document 01, whole.
 -- Assumes nothing.
 use Prim.Native.Nat.{ℕ}
-use Rattle.frame.proofs.DeliveryLaws.{deliveries}
+use Rattle.stream.proofs.DeliveryLaws.{deliveries}
 use Rattle.demands.specs.Demand3.{Demand3}
 use Rattle.demands.proofs.Requests.{serial-requests, udp-requests}
 

@@ -170,10 +170,14 @@ module _ (s : List ℕ) (from n : ℕ) (old : List ℕ) (room : n ≤ length old
       ∙ append-nil (c .bytes) in
       subst (λ l. Put 0 l old k out) (sym is) (c .put)
 
--- Numbers that need no content. A refusal has no start.
+-- Where the data starts: nowhere on a refusal, behind the address with 0.
 no-start : (a n : ℕ) → ltb 0 n ≡ true → cond (eqb n done) (2 + length (doubled a)) 0 ≡ 0
 no-start a n l = rw (ne-eqb n done (λ q. omega (arith, ltb-true 0 n l, q)))
 
+data-start : (a n : ℕ) → n ≡ done → 2 + length (doubled a) ≡ cond (eqb n done) (2 + length (doubled a)) 0
+data-start a n e = rw (eq-eqb n done e)
+
+-- Numbers that need no content.
 checks-refused : (a : ℕ) (s : List ℕ) (n : ℕ) → ltb 0 n ≡ true → readFrame a s ≡ refused n → Checks a s (failed n)
 checks-refused a s n l e =
     record {
@@ -242,7 +246,7 @@ checks-passed a s c e h =
     record {
       number = sym (ap (λ r. r .number) e);
       len = sym (ap length payload ∙ size);
-      start = sym (ap (λ r. cond (eqb (r .number) done) (2 + length (doubled a)) 0) e);
+      start = data-start a (readFrame a s .number) (ap (λ r. r .number) e);
       content =
           ap₂ (λ n l. contentFrom n (drop (2 + length (doubled a)) l)) (sym size) written
           ∙ frame-content a (dataIn c)

@@ -60,6 +60,11 @@ pub over-nil : (xs : List ℕ) → over [] xs ≡ xs
 unfolding over
 over-nil xs = refl
 
+-- What was written is read off the front.
+pub over-front : (x old : List ℕ) {n : ℕ} {new : List ℕ} → n ≡ length x → new ≡ over x old → take n new ≡ x
+unfolding over
+over-front x old {n} e h = ap (take n) h ∙ take-at x (drop (length x) old) n (sym e)
+
 -- Nothing put.
 pub put-nil : (at : ℕ) (xs : List ℕ) → Put at [] xs at xs
 unfolding putAt

@@ -9,7 +9,7 @@ use lib.Dec.{eqb}
 use Rattle.protocol.specs.Numbers.{done, unsound}
 use Rattle.protocol.specs.Frame.{Received}
 use Rattle.protocol.specs.Request.{Request, Asked}
-use Rattle.frame.specs.Stream.{stateLength}
+use Rattle.stream.specs.State.{stateLength}
 use Rattle.request.specs.Asked.{padded}
 use Rattle.cells.specs.Cells.{cellSize}
 use Rattle.tree.specs.Seen.{seen, isTree}

@@ -14,7 +14,8 @@ ghost use Rattle.protocol.specs.Frame.{ifRoom, readFrame, readDatagram, writeFr
 ghost use Rattle.protocol.specs.Buffer.{Emits};
 ghost use Rattle.protocol.specs.Request as rule;
 ghost use Rattle.protocol.specs.Request.{readSerial, readUdp, serialForm, udpForm};
-ghost use Rattle.frame.specs.Stream.{stateLength, fed, Feeds};
+ghost use Rattle.stream.specs.State.{stateLength};
+ghost use Rattle.stream.specs.Feed.{fed, Feeds};
 ghost use Rattle.request.specs.Asked.{requestOf, AskedIs};
 ghost use Rattle.request.specs.Write.{writeRequest};
 ghost use Rattle.cells.specs.Lent.{lentNumber, Updates, postIn, restoreIn, Reads, readIn};
@@ -26,7 +27,7 @@ ghost use Rattle.pualirqiq.specs.Calls.{truth, Zeroes, isStateSized, cel
 pub extern "C" fn pq_state_size() -> usize
     ensures { λ r. ⌜ r ≡ stateLength ⌝ }
 {
-    frame::stream::STATE_LEN
+    stream::state::STATE_LEN
 }
 
 // A buffer of zeros. Returns 0.
@@ -46,7 +47,7 @@ fn clear(buffer: &mut [u8]) -> u8
 pub extern "C" fn pq_begin_stream(state: &mut [u8]) -> u8
     ensures { λ r. ⌜ Zeroes (isStateSized (now (state .entry))) stateLength (now (state .entry)) r (now (state .exit)) ⌝ }
 {
-    if state.len() != frame::stream::STATE_LEN {
+    if state.len() != stream::state::STATE_LEN {
         return UNSOUND;
     }
     clear(state)
@@ -64,7 +65,7 @@ pub extern "C" fn pq_feed(
 ) -> u8
     ensures { λ r. ⌜ Feeds (fed address (now (state .entry)) (now (bytes .entry)) (length (now (out .entry)))) (now (out .entry)) r (now (taken .exit)) (now (len .exit)) (now (state .exit)) (now (out .exit)) ⌝ }
 {
-    let fed = frame::stream::feed(state, address, bytes, out);
+    let fed = stream::feed::feed(state, address, bytes, out);
     *taken = fed.taken;
     *len = fed.len;
     fed.number

@@ -8,21 +8,18 @@ use mathlib.Core.Path.{_≡_, refl, sym, ap, ap₂, subst, _∙_}
 use mathlib.Core.Bool.{Bool, true, false, _&&_}
 use mathlib.Core.List.{List, [], _∷_}
 use borrow.Author.Tests.{eqb-true, eq-eqb, ne-eqb, lt-ltb, le-ltb, le-leb, lt-leb}
-use lib.ListN.{length, getD, take, drop, replicate, length-take, length-drop}
+use lib.ListN.{length, getD, take, drop, replicate, length-take, length-drop, length-append}
 use lib.Seq.{take-all, getD-drop}
 use lib.Dec.{eqb, leb}
 use Rattle.protocol.specs.Numbers.{done, unknownCommand, badParameter, PDI, opNode, opRead, opWriteExtended, maxDepth}
 use Rattle.protocol.specs.Bytes.{numberAfter, number}
-use Rattle.protocol.specs.Frame.{Received, readFrame, readDatagram}
-use Rattle.protocol.specs.Buffer.{over, Put}
+use Rattle.protocol.specs.Frame.{Received, readFrame, cut, readDatagram}
+use Rattle.protocol.specs.Buffer.{over, Put, Emits}
 use Rattle.protocol.specs.Request.{Request, Asked, asksIndex, asksValue, fits, declined, askedIf, beforeZero, readIndexed, readValued, readShape, readRequest, readPayload, readSerial, readUdp}
-use Rattle.protocol.proofs.BufferLaws.{over-put, part-lent}
+use Rattle.protocol.proofs.BufferLaws.{over-put, over-front, part-lent}
 use Rattle.protocol.proofs.RequestLaws.{askedIf-by, readValued-by, readShape-by, readRequest-by, readRequest-one, readPayload-by, path-most}
-use Rattle.frame.specs.Read.{contentFrom, Checks}
-use Rattle.frame.specs.declared.read.Checked.{Checked}
 use Rattle.request.specs.declared.Asked as declared
 use Rattle.request.specs.Asked.{requestOf, found, padded, AskedIs}
-use Rattle.request.proofs.WriteLaws.{put-front}
 
 -- What is handed back for a reading, where two readings are the same.
 carry : {a b : Asked} {x : declared.Asked} → b ≡ a → AskedIs a x → AskedIs b x
@@ -214,20 +211,25 @@ payload-read : (p : Received) {n : ℕ} {x : declared.Asked} → n ≡ p .number
     → AskedIs (readPayload p) x
 payload-read p e h a = carry (readPayload-by p true (eq-eqb (p .number) done (sym e ∙ h))) a
 
-module _ (a : ℕ) (s : List ℕ) {r : Checked} {x : declared.Asked} (c : Checks a s r) where
-  pub serial-refused : (r .number ≡ done → ⊥) → AskedIs (declined (r .number)) x → AskedIs (readSerial a s) x
-  unfolding readSerial
-  serial-refused h f = payload-refused (readFrame a s) (c .number) h f
+-- A string's data was put at the front of 25 bytes, as far as there was room.
+module _ (a : ℕ) (s : List ℕ) {old front : List ℕ} {n size : ℕ} (m : Emits (cut 25 (readFrame a s)) old n size front) where
+  pub serial-within : size ≤ length front
+  unfolding over
+  serial-within =
+      let d : List ℕ = take 25 (readFrame a s .payload) in
+      omega (arith, m .len, ap length (m .bytes), length-append d (drop (length d) old))
 
-  pub serial-read : r .number ≡ done → {k : ℕ} {old front : List ℕ}
-      → Put 0 (take 25 (contentFrom (r .len) (drop (r .start) s))) old k front → AskedIs (readRequest (take k front)) x
-      → AskedIs (readSerial a s) x
+  pub serial-refused : {x : declared.Asked} → (n ≡ done → ⊥) → AskedIs (declined n) x → AskedIs (readSerial a s) x
   unfolding readSerial
-  serial-read h {k} {old} {front} p f =
+  serial-refused h f = payload-refused (readFrame a s) (m .number) h f
+
+  pub serial-read : {x : declared.Asked} → n ≡ done → AskedIs (readRequest (take size front)) x → AskedIs (readSerial a s) x
+  unfolding readSerial
+  serial-read h f =
       let d : List ℕ = readFrame a s .payload in
-      let same : readRequest d ≡ readRequest (take k front) =
-      sym (ap readRequest (put-front p ∙ ap (take 25) (c .content)) ∙ tells d) in
-      payload-read (readFrame a s) (c .number) h (carry same f)
+      let read : readRequest d ≡ readRequest (take size front) =
+      sym (ap readRequest (over-front (take 25 d) old (m .len) (m .bytes)) ∙ tells d) in
+      payload-read (readFrame a s) (m .number) h (carry read f)
 
 module _ (d : List ℕ) {n : ℕ} {x : declared.Asked} (e : n ≡ readDatagram d .number) where
   pub udp-refused : (n ≡ done → ⊥) → AskedIs (declined n) x → AskedIs (readUdp d) x

@@ -119,14 +119,14 @@ pub fn read_data(d: &[u8]) -> Asked
 pub fn read_serial(address: u8, s: &[u8]) -> Asked
     ensures { λ r. ⌜ AskedIs (readSerial address (now (s .entry))) r ⌝ }
 {
-    let checked = frame::read::check_frame(address, s);
-    let number = checked.number;
+    // One byte more than the longest request has.
+    let mut front = [0u8; 25];
+    let read = frame::read::read_front(address, s, &mut front);
+    let number = read.number;
     if number != DONE {
         return refusal(number);
     }
-    // One byte more than the longest request has.
-    let mut front = [0u8; 25];
-    let n = frame::read::copy_fitting(s, checked.start, checked.len, &mut front);
+    let n = read.len;
     read_data(&front[..n])
 }
 

@@ -15,10 +15,10 @@ use lib.Dec.{eqb, ltb, leb}
 use Rattle.protocol.specs.Numbers.{done, unsound, noRoom, noFrame, DLE, STX, ETX, maxContent, roomData}
 use Rattle.protocol.specs.Bytes.{half}
 use Rattle.protocol.specs.Frame.{Received, received, refused, judge, wrap, frame, contentOf, addressIn, Sized}
-use Rattle.protocol.specs.Buffer.{over}
 use Rattle.protocol.specs.Stream as rule
 use Rattle.protocol.specs.Stream.{Stream, outside, inside, Event, step, collect, on, ends, handUp, handedUpFrom, handedUp}
 use Rattle.protocol.proofs.TestLaws.{and-both, if-both}
+use Rattle.protocol.proofs.BufferLaws.{over-front}
 use Rattle.protocol.proofs.FrameLaws.{judge-only, Good, isSummed, length-contentOf}
 use Rattle.protocol.proofs.StreamLaws.{closing, after-append, handedUp-append, closed-stands, second-sending}
 use Rattle.stream.specs.State.{stateLength, phaseOf, contentIn, keep, phaseIn, lengthIn, hasForm, streamWith, standing, streamOf}
@@ -227,10 +227,6 @@ pub data Called (a : ℕ) (s : Stream) (st : List ℕ) (d : Delivery) : Type 0 w
   ran : (r : Ran) → Follows s st (d .bytes) r → d .number ≡ eventResult a (r .event) .number → d .taken ≡ r .taken
       → take (d .len) (d .out) ≡ eventResult a (r .event) .payload → d .state ≡ r .bytes → Called a s st d
 
-front : (x old : List ℕ) {n : ℕ} {new : List ℕ} → n ≡ length x → new ≡ over x old → take n new ≡ x
-unfolding over
-front x old {n} e h = ap (take n) h ∙ take-at x (drop (length x) old) n (sym e)
-
 fed-by : (a : ℕ) (st bytes : List ℕ) (room : ℕ) (t u : Bool) → hasForm st ≡ t → ltb room roomData ≡ u
     → fed a st bytes room
     ≡ cond t (cond u (takesNone noRoom st) (fedBy a (runFrom (standing st) st bytes))) (takesNone unsound st)
@@ -248,7 +244,7 @@ met : (a : ℕ) (st : List ℕ) (d : Delivery) {what : FedBy} → Meets a st d �
 met a st d {what} m e =
     let f : Feeds what (d .lent) (d .number) (d .taken) (d .len) (d .state) (d .out) =
     subst (λ x. Feeds x (d .lent) (d .number) (d .taken) (d .len) (d .state) (d .out)) e m in
-    record { number = f .number; taken = f .taken; payload = front (what .payload) (d .lent) (f .len) (f .bytes); state = f .state }
+    record { number = f .number; taken = f .taken; payload = over-front (what .payload) (d .lent) (f .len) (f .bytes); state = f .state }
 
 pub called : (a : ℕ) (s : Stream) (st : List ℕ) (d : Delivery) → StateOf s st → Meets a st d → Called a s st d
 called a s st d w m = go (ltb (length (d .lent)) roomData) refl

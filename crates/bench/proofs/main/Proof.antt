@@ -1,6 +1,6 @@
 -- `bench::main` is safe and ends: a state of zeros has a form. Assumes nothing.
 use mathlib.Core.Path.{refl}
-use Rattle.frame.specs.Stream.{hasForm}
+use Rattle.stream.specs.State.{hasForm}
 use borrow.Author.Needs.{needs}
 use Rattle.bench.proofs.main.Statement.{statement}
 use Rattle.bench.proofs.main.Tie as tie

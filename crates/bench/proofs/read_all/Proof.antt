@@ -4,7 +4,7 @@ use mathlib.Core.Path.{_≡_, refl}
 use mathlib.Core.Bool.{true}
 use borrow.Author.Needs.{needs}
 use lib.ListN.{length}
-use Rattle.frame.specs.Stream.{hasForm}
+use Rattle.stream.specs.State.{hasForm}
 use Rattle.bench.proofs.read_all.Statement.{statement}
 use Rattle.bench.proofs.read_all.Tie as tie
 

@@ -5,7 +5,7 @@ use mathlib.Core.Path.{_≡_, refl}
 use mathlib.Core.Bool.{true}
 use borrow.Author.Needs.{needs}
 use lib.ListN.{length, drop, length-take, length-drop}
-use Rattle.frame.specs.Stream.{hasForm}
+use Rattle.stream.specs.State.{hasForm}
 use Rattle.bench.proofs.show_all.Statement.{statement}
 use Rattle.bench.proofs.show_all.Tie as tie
 

@@ -2,7 +2,7 @@
 use borrow.Author.Needs.{needs}
 use borrow.Author.Tests.{eq-eqb, ne-eqb}
 use lib.ListN.{length}
-use Rattle.frame.specs.Stream.{stateLength}
+use Rattle.stream.specs.State.{stateLength}
 use Rattle.pualirqiq.specs.Calls.{isStateSized}
 use Rattle.pualirqiq.proofs.CallLaws.{zeroes-right, zeroes-wrong}
 use Rattle.pualirqiq.proofs.pq_begin_stream.Statement.{statement}

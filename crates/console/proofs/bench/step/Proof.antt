@@ -3,7 +3,7 @@ use Prim.Native.Nat.{_≤_}
 use lib.ListN.{length}
 use Rattle.request.proofs.WriteLaws.{part-size}
 use Rattle.protocol.specs.Numbers.{roomData}
-use Rattle.frame.specs.Stream.{FedBy, fed}
+use Rattle.stream.specs.Feed.{FedBy, fed}
 use Rattle.console.specs.Bench.{benchAddress}
 use Rattle.console.proofs.StepLaws.{front-within, steps-none, steps-open, no-frame, good-frame, bad-frame}
 use borrow.Author.Needs.{needs}
