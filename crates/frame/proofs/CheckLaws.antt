@@ -17,7 +17,7 @@ use Rattle.protocol.specs.Frame.{refused, received, doubled, double, checksum, 
 use Rattle.protocol.specs.Buffer.{over, Put, Emits}
 use Rattle.protocol.proofs.TestLaws.{eqb-same}
 use Rattle.protocol.proofs.ListLaws.{init-last, sum-snoc, bytes-left, bytes-drop}
-use Rattle.protocol.proofs.FrameLaws.{double-snoc, bytes-undouble, double-undouble, parts, isSummed, judge-by, judgeWhole-by, isOpened, opened, readFrame-by, readFrame-only, readFrame-refused}
+use Rattle.protocol.proofs.FrameLaws.{double-snoc, bytes-undouble, double-undouble, parts, isSummed, judge-by, judgeWhole-by, isOpened, readFrame-by, readFrame-only, readFrame-refused}
 use Rattle.protocol.proofs.BufferLaws.{put-nil, puts, length-put, over-put, over-nil}
 use Rattle.frame.specs.declared.read.Tally.{Tally}
 use Rattle.frame.specs.declared.read.Scan.the-variants.{Whole, Broken}
@@ -234,6 +234,12 @@ judged-by : (a : ℕ) (t : Tally) (p q u v : Bool) → ltb (t .count) 3 ≡ p �
     ≡ cond p (failed tooShort) (cond q (failed tooLong) (cond u (cond v (passed a (t .count)) (failed otherAddress)) (failed badChecksum)))
 unfolding judged
 judged-by a t p q u v e f g h = rw (e, f, g, h)
+
+pub judged-passed : {a : ℕ} {t : Tally} {w : ℕ} → 3 ≤ t .count → t .count ≤ maxContent → t .sum ≡ 255 → t .first ≡ a → w ≡ length (doubled a)
+    → record { number = done; len = t .count - 2; start = 2 + w } ≡ judged a t
+judged-passed {a} {t} p q u v e =
+    ap (λ w. record { number = done; len = t .count - 2; start = 2 + w }) e
+    ∙ sym (judged-by a t false false true true (le-ltb (t .count) 3 p) (le-ltb maxContent (t .count) q) (eq-eqb (t .sum) 255 u) (eq-eqb (t .first) a v))
 
 -- A string whose content passes every test: its data stands where `passed` says.
 checks-passed : (a : ℕ) (s c : List ℕ) → readFrame a s ≡ received (dataIn c) → 3 ≤ length c → Checks a s (passed a (length c))

@@ -14,7 +14,7 @@ use lib.Seq.{take-at, length-take-le}
 use lib.Dec.{eqb, ltb, leb}
 use Rattle.protocol.specs.Numbers.{done, unsound, noRoom, noFrame, DLE, STX, ETX, maxContent, roomData}
 use Rattle.protocol.specs.Bytes.{half}
-use Rattle.protocol.specs.Frame.{Received, received, refused, judge, wrap, frame, contentOf, addressIn, Sized}
+use Rattle.protocol.specs.Frame.{Received, received, judge, wrap, frame, contentOf, addressIn, Sized}
 use Rattle.protocol.specs.Stream as rule
 use Rattle.protocol.specs.Stream.{Stream, outside, inside, Event, step, collect, on, ends, handUp, handedUpFrom, handedUp}
 use Rattle.protocol.proofs.TestLaws.{and-both, if-both}

@@ -4,6 +4,7 @@ use borrow.Author.Tests.{lt-ltb, le-ltb, eq-eqb, ne-eqb}
 use borrow.Author.Needs.{needs}
 use Rattle.protocol.proofs.FrameLaws.{length-doubled}
 use Rattle.frame.specs.Steps.{judged}
+use Rattle.frame.proofs.CheckLaws.{judged-passed}
 use Rattle.frame.proofs.read.judge.Statement.{statement}
 use Rattle.frame.proofs.read.judge.Tie as tie
 
@@ -44,15 +45,12 @@ add-r : tie.Need-add-r
 add-r c = omega (arith, c .width .ensures, length-doubled (c .before .before .before .before .before .before .before .before .before .before .args .address))
 
 returns-5 : tie.Need-returns-5
-unfolding judged
 returns-5 c =
-    simp (
-      le-ltb _ _ (c .before .before .before .before .before .before .before .before .if1 .left),
-      le-ltb _ _ (c .before .before .before .before .before .before .if2 .left),
-      eq-eqb _ _ (c .before .before .before .before .if3 .left),
-      eq-eqb _ _ (c .before .before .if4 .left),
-      c .width .ensures,
-    )
+    let else4 = c .before .before in
+    let else3 = else4 .before .before in
+    let else2 = else3 .before .before in
+    let else1 = else2 .before .before in
+    judged-passed (else1 .if1 .left) (else2 .if2 .left) (else3 .if3 .left) (else4 .if4 .left) (c .width .ensures)
 
 pub judge-spec : {M : Type 1} → statement M
 judge-spec =
