@@ -9,7 +9,7 @@ use mathlib.Core.Bool.{Bool, true, false, _&&_}
 use mathlib.Core.List.{List, [], _∷_}
 use borrow.Author.Tests.{eqb-true, eq-eqb, ne-eqb, lt-ltb, le-ltb, le-leb, lt-leb}
 use lib.ListN.{length, getD, take, drop, replicate, length-take, length-drop, length-append}
-use lib.Seq.{take-all, getD-drop}
+use lib.Seq.{take-all, take-take}
 use lib.Dec.{eqb, leb}
 use Rattle.protocol.specs.Numbers.{done, unknownCommand, badParameter, PDI, opNode, opRead, opWriteExtended, maxDepth}
 use Rattle.protocol.specs.Bytes.{numberAfter, number}
@@ -194,12 +194,16 @@ front-tells (c ∷ op ∷ d) h = go (eqb c PDI && leb op opWriteExtended) refl
         ∙ long-shape op (take 23 d) (omega (arith, h, length-take 23 d))
         ∙ sym (readRequest-by c op d true e ∙ long-shape op d (omega (arith, h)))
 
-pub tells : (d : List ℕ) → readRequest (take 25 d) ≡ readRequest d
-tells d = go (decLe 25 (length d))
+first-tell : (d : List ℕ) → readRequest (take 25 d) ≡ readRequest d
+first-tell d = go (decLe 25 (length d))
   where
     go : Dec (25 ≤ length d) → readRequest (take 25 d) ≡ readRequest d
     go (yes h) = front-tells d h
     go (no h) = ap readRequest (take-all 25 d (omega (arith, h)))
+
+-- So do its first bytes, where there is room for 25.
+tells : (room : ℕ) (d : List ℕ) → 25 ≤ room → readRequest (take room d) ≡ readRequest d
+tells room d h = sym (first-tell (take room d)) ∙ ap readRequest (take-take 25 room d h) ∙ first-tell d
 
 -- A string or a datagram that is refused, and one whose data is read.
 payload-refused : (p : Received) {n : ℕ} {x : declared.Asked} → n ≡ p .number → (n ≡ done → ⊥) → AskedIs (declined n) x
@@ -211,24 +215,25 @@ payload-read : (p : Received) {n : ℕ} {x : declared.Asked} → n ≡ p .number
     → AskedIs (readPayload p) x
 payload-read p e h a = carry (readPayload-by p true (eq-eqb (p .number) done (sym e ∙ h))) a
 
--- A string's data was put at the front of 25 bytes, as far as there was room.
-module _ (a : ℕ) (s : List ℕ) {old front : List ℕ} {n size : ℕ} (m : Emits (cut 25 (readFrame a s)) old n size front) where
+-- A string's data was put at the front of some bytes, as far as there was room.
+module _ (a : ℕ) (s : List ℕ) {old front : List ℕ} {n size : ℕ} (m : Emits (cut (length old) (readFrame a s)) old n size front) where
   pub serial-within : size ≤ length front
   unfolding over
   serial-within =
-      let d : List ℕ = take 25 (readFrame a s .payload) in
+      let d : List ℕ = take (length old) (readFrame a s .payload) in
       omega (arith, m .len, ap length (m .bytes), length-append d (drop (length d) old))
 
   pub serial-refused : {x : declared.Asked} → (n ≡ done → ⊥) → AskedIs (declined n) x → AskedIs (readSerial a s) x
   unfolding readSerial
   serial-refused h f = payload-refused (readFrame a s) (m .number) h f
 
-  pub serial-read : {x : declared.Asked} → n ≡ done → AskedIs (readRequest (take size front)) x → AskedIs (readSerial a s) x
+  pub serial-read : {x : declared.Asked} → 25 ≤ length old → n ≡ done → AskedIs (readRequest (take size front)) x
+      → AskedIs (readSerial a s) x
   unfolding readSerial
-  serial-read h f =
+  serial-read room h f =
       let d : List ℕ = readFrame a s .payload in
       let read : readRequest d ≡ readRequest (take size front) =
-      sym (ap readRequest (over-front (take 25 d) old (m .len) (m .bytes)) ∙ tells d) in
+      sym (ap readRequest (over-front (take (length old) d) old (m .len) (m .bytes)) ∙ tells (length old) d room) in
       payload-read (readFrame a s) (m .number) h (carry read f)
 
 module _ (d : List ℕ) {n : ℕ} {x : declared.Asked} (e : n ≡ readDatagram d .number) where

@@ -19,13 +19,14 @@ use Rattle.stream.specs.declared.feed.Move.the-variants.{On, Keep, Close
 use Rattle.stream.specs.State.{stateLength, phaseOf, contentIn, keep, phaseIn, lengthIn, hasForm}
 use Rattle.stream.specs.Feed.{Ran}
 
--- Where a reader stands, as the code has it: phase and length of the content.
-unfoldable pub placeOf : List ℕ → Found
-placeOf state = cond (hasForm state) (At (record { phase = phaseIn state; len = lengthIn state })) Formless
-
+-- A place, and the one that a state has in its first bytes.
 abbrev pub place : ℕ → ℕ → Place
 place phase len = record { phase = phase; len = len }
 
+unfoldable pub placeOf : List ℕ → Found
+placeOf state = cond (hasForm state) (At (place (phaseIn state) (lengthIn state))) Formless
+
+-- One byte, from a phase and a number of content bytes.
 unfoldable pub collectOf : ℕ → Move
 collectOf len = cond (ltb len maxContent) (Keep (place 2 (len + 1))) TooLong
 

@@ -1,5 +1,6 @@
 -- `request::read::read_serial` meets its contract. Assumes nothing.
 use Prim.Native.Nat.{_≤_}
+use native.Mathlib.Omega.{arith}
 use borrow.Author.Needs.{needs}
 use lib.ListN.{length}
 use Rattle.request.proofs.WriteLaws.{part-size}
@@ -43,7 +44,8 @@ returns-2 : tie.Need-returns-2
 returns-2 c =
     let else1 = c .before .before in
     let read = else1 .before .before in
-    serial-read (start-of read .args .address) (start-of read .args .s .now) (read .read-front .ensures) (else1 .if1 .left) (c .read-data .ensures)
+    serial-read (start-of read .args .address) (start-of read .args .s .now) (read .read-front .ensures) (omega arith) (else1 .if1 .left)
+    (c .read-data .ensures)
 
 pub read-serial-spec : {M : Type 1} → statement M
 read-serial-spec =
