@@ -9,7 +9,7 @@ use mathlib.Core.Bool.{Bool, true, false, _&&_}
 use mathlib.Core.List.{List, [], _∷_}
 use borrow.Author.Tests.{eqb-true, eq-eqb, ne-eqb, lt-ltb, le-ltb, le-leb, lt-leb}
 use lib.ListN.{length, getD, take, drop, replicate, length-take, length-drop, length-append}
-use lib.Seq.{take-all, take-take}
+use lib.Seq.{take-all, take-take, getD-drop}
 use lib.Dec.{eqb, leb}
 use Rattle.protocol.specs.Numbers.{done, unknownCommand, badParameter, PDI, opNode, opRead, opWriteExtended, maxDepth}
 use Rattle.protocol.specs.Bytes.{numberAfter, number}

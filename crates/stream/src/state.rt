@@ -22,12 +22,6 @@ pub(crate) enum Found {
     Formless,
 }
 
-fn wide(b: u8) -> usize
-    ensures { λ r. ⌜ r ≡ b ⌝ }
-{
-    b as usize
-}
-
 // Where a lent state says that the reader stands. A look at its length and its first three bytes.
 pub(crate) fn place_of(state: &[u8]) -> Found
     ensures { λ r. ⌜ r ≡ placeOf (now (state .entry)) ⌝ }
@@ -40,11 +34,11 @@ pub(crate) fn place_of(state: &[u8]) -> Found
         return Found::Formless;
     }
     // A length up to 258 has 0 or 1 here.
-    let high = wide(state[1]);
+    let high = word::wide(state[1]);
     if 1 < high {
         return Found::Formless;
     }
-    let len = high * 256 + wide(state[2]);
+    let len = high * 256 + word::wide(state[2]);
     if MAX_CONTENT < len {
         return Found::Formless;
     }
