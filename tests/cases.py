@@ -1,10 +1,16 @@
 """The second program of document 01: what crates/cases must print, worked out anew from documents 01 and 003.
 
-Usage: cases.py write      writes the files of crates/cases: stdout, the expected lines; src/main.rt, the cases as Rattle
-                           source; src/trees.rt, the trees in their lent form
+Usage: cases.py write      writes the files of crates/cases: stdin, the cases; stdout, the expected lines
        cases.py check      says whether the files there are these, byte for byte
 Nothing here was taken from the program's output. Each case: name, call, arguments; the answer is worked out by the rules below,
 and `SAYS` holds the answers that the documents print in full, which the rules are compared with.
+
+A case is a line of stdin, of six fields: its name, then five in hex with capital letters, and `|` between two fields.
+
+    name|numbers|first|second|tree|cells
+
+The numbers are 11 bytes: kind of case, room for the output (two bytes), address, mark, op, index, value (four bytes), each high
+byte first; `CALLS` has the kinds, and crates/cases/src what each does with its fields. What a kind does not need is 0 or empty.
 """
 import pathlib
 import sys
@@ -356,8 +362,8 @@ CASES = [
     ("serve_data/13 range", "data", H("B4050102010000000000")),
     ("serve_serial/0", "serial", 0, frame(0, H("B402010202"))),
     ("serve_serial/0", "serial", 0x10, frame(0x10, H("B400"))),
-    ("serve_serial/1", "serial_unsound", PING),
-    ("serve_serial/8", "serial_no_room", PING),
+    ("serve_serial/1", "serial_unsound", 0, PING),
+    ("serve_serial/8", "serial_no_room", 0, PING),
     ("serve_serial/2", "serial", 0, H("B400")),
     ("serve_serial/3", "serial", 0, H("100200101003")),
     ("serve_serial/4", "serial", 0, H("10021003")),
@@ -431,11 +437,21 @@ SAYS = {
 }
 
 
+def variant(call):
+    """A call without its suffix, and which suffix it has: too little room, cells or a state that are unsound, host functions off."""
+    suffixes = ("_no_room", "_unsound", "_off")
+    has = [call.endswith(s) for s in suffixes]
+    return call[: -len(suffixes[has.index(True)])] if any(has) else call, *has
+
+
+def tree_of(base):
+    return {"limits": limits, "penko": penko}.get(base, bench)()
+
+
 def answers(call, args):
     """Number and bytes, once or twice."""
-    no_room, unsound, off = call.endswith("_no_room"), call.endswith("_unsound"), call.endswith("_off")
-    base = call.removesuffix("_no_room").removesuffix("_unsound").removesuffix("_off")
-    tree = bench()
+    base, no_room, unsound, off = variant(call)
+    tree = tree_of(base)
     if base == "post":
         place, word, ready = args
         if unsound:
@@ -478,7 +494,6 @@ def answers(call, args):
         number, d = written(*args[-4:])
         return [(number, b"" if number else frame(args[0], d) if base == "write_serial" else bytes(4) + d)]
     if base in ("data", "twice", "limits", "penko"):
-        tree = {"limits": limits, "penko": penko}.get(base, bench)()
         return [serve(tree, not off, d) for d in args]
     number, d = string(*args) if base == "serial" else datagram(*args)
     if number:
@@ -496,79 +511,44 @@ def lines():
             yield ("  op" if k == 1 and call.startswith("read_") else name) + ": " + says
 
 
-# The cases as Rattle source, in the layout of `rt fmt`.
-def literal(x):
-    if isinstance(x, int):
-        return str(x)
-    if len(x) > 40 and len(set(x)) == 1:
-        return f"&[{x[0]}u8; {len(x)}]"
-    if x == LONG_STRING:
-        return "&long_string()"
-    return 'b"' + "".join(f"\\x{b:02X}" for b in x) + '"'
-
-
-def listed(before, items, after):
-    """A list, on one line where its items take no more than 60 columns."""
-    if len(", ".join(items)) <= 60:
-        return f"    {before}{', '.join(items)}{after}\n"
-    return f"    {before}\n" + "".join(f"        {item},\n" for item in items) + f"    {after}\n"
-
-
-SERVING = ("data", "twice", "limits", "penko", "serial", "udp", "post", "restore", "reading")
-
-PROGRAM = """\
-// The cases of documents 01 and 003, a line each (tests/cases.py writes this file, and works out what it must print).
-mod serve;
-mod show;
-mod trees;
-mod wire;
-
-// A frame of 296 content bytes.
-fn long_string() -> [u8; 300] {
-    let mut s = [0u8; 300];
-    s[0] = 16;
-    s[1] = 2;
-    s[298] = 16;
-    s[299] = 3;
-    s
+# The cases as lines of stdin. For each call: its kind, the room that it asks for, and the fields that its arguments fill.
+CALLS = {
+    "write_frame": (0x10, 520, ("address", "first")),
+    "read_frame": (0x11, 256, ("address", "first")),
+    "datagram": (0x12, 0, ("first",)),
+    "write_datagram": (0x13, 260, ("first",)),
+    "feed": (0x14, 256, ("address", "first", "second")),
+    "read_serial": (0x20, 0, ("address", "first")),
+    "read_udp": (0x21, 0, ("first",)),
+    "write_serial": (0x22, 520, ("address", "op", "first", "index", "value")),
+    "write_udp": (0x23, 260, ("op", "first", "index", "value")),
+    "data": (0x30, 256, ("first", "second")),
+    "serial": (0x31, 520, ("address", "first")),
+    "udp": (0x32, 260, ("first",)),
+    "post": (0x33, 0, ("index", "value", "mark")),
+    "restore": (0x34, 256, ("first",)),
+    "reading": (0x35, 0, ("index",)),
 }
 
-"""
 
-
-def statement(name, call, args):
-    base = call.removesuffix("_no_room").removesuffix("_unsound").removesuffix("_off")
-    module = "serve" if base in SERVING else "wire"
-    values = [literal(a) for a in args]
-    if base == "post":
-        values[2] = "true" if args[2] else "false"
-    if module == "serve" and call in ("data", "serial", "udp", "data_off", "serial_off", "udp_off"):
-        values.insert(0, "false" if call.endswith("_off") else "true")
-        call = base
-    return listed(f"{module}::{call}(", [f'b"{name}"', *values], ");")
-
-
-def program():
-    out = PROGRAM
-    groups = [CASES[i : i + 8] for i in range(0, len(CASES), 8)]
-    for k, group in enumerate(groups):
-        out += f"fn cases_{k}() {{\n" + "".join(statement(name, call, args) for name, call, *args in group) + "}\n\n"
-    return out + "fn main() {\n" + "".join(f"    cases_{k}();\n" for k in range(len(groups))) + "}\n"
-
-
-def trees():
-    functions = []
-    for name, tree in (("limits", limits()), ("penko", penko())):
-        for what, bs in (("tree", tree.form()), ("cells", tree.cell_bytes())):
-            head = f"pub(crate) fn {name}_{what}() -> [u8; {len(bs)}] {{\n"
-            functions.append(head + listed("[", [str(b) for b in bs], "]") + "}\n")
-    title = "// Trees in their lent form (docs/FORMATS.md), and their cells; written by tests/cases.py.\n"
-    return title + "\n".join(functions)
+def record(name, call, args):
+    base, no_room, unsound, off = variant(call)
+    tree = tree_of(base)
+    base = {"twice": "data", "limits": "data", "penko": "data", "feed_twice": "feed"}.get(base, base)
+    kind, room, fields = CALLS[base]
+    # The byte that fills the stream state, where it is unsound; or host functions on.
+    mark = 4 * unsound if base == "feed" else int(base in ("data", "serial", "udp", "restore") and not off)
+    f = {"mark": mark, **dict(zip(fields, args))}
+    numbers = bytes([kind]) + (room - no_room).to_bytes(2, "big")
+    numbers += bytes(f.get(field, 0) for field in ("address", "mark", "op", "index")) + f.get("value", 0).to_bytes(4, "big")
+    lent = [b"", b""] if kind < 0x30 else [tree.form(), bytes(24) if unsound else tree.cell_bytes()]
+    return "|".join([name] + [bs.hex().upper() for bs in [numbers, f.get("first", b""), f.get("second", b""), *lent]])
 
 
 def main(words):
     crate = pathlib.Path(__file__).parent.parent / "crates/cases"
-    files = {"stdout": "".join(line + "\n" for line in lines()), "src/main.rt": program(), "src/trees.rt": trees()}
+    records = (record(name, call, args) for name, call, *args in CASES)
+    files = {"stdin": "".join(r + "\n" for r in records), "stdout": "".join(line + "\n" for line in lines())}
     if words == ["write"]:
         for name, text in files.items():
             (crate / name).write_bytes(text.encode())

@@ -1,170 +1,101 @@
-// Serving calls and postings, over the bench tree and two others.
+// Serving calls, postings and readings, over a tree and its cells. The kinds:
+//
+//     30  request data served   mark; first, second: one or two requests, over the same cells
+//     31  a serial string       address, mark; first: the string
+//     32  a datagram            mark; first
+//     33  a posting             index: its place; value: its word; mark: whether it is ready
+//     34  saved cells restored  mark; first: a request over them, if any
+//     35  a reading             index: its place
+//
+// Where a request is served, the mark is 1 with host functions on.
+use super::Numbers;
 use super::show;
-use super::trees;
 use cells::Reading;
 use protocol::NO_READING;
-use tree::bench;
 
-fn data_into(
-    name: &[u8],
-    tree: &[u8],
-    cells: &mut [u8],
-    host: bool,
-    request: &[u8],
-    out: &mut [u8],
-) {
-    let served = answer::serve::serve_data(tree, cells, host, request, out);
+fn data(name: &[u8], n: Numbers, request: &[u8], tree: &[u8], cells: &mut [u8], out: &mut [u8]) {
+    let served = answer::serve::serve_data(tree, cells, n.mark == 1, request, out);
     show::front(name, served.number, out, served.len);
 }
 
-fn serial_into(
-    name: &[u8],
-    cells: &mut [u8],
-    host: bool,
-    address: u8,
-    string: &[u8],
-    out: &mut [u8],
-) {
-    let tree = bench::tree();
-    let served = answer::serve::serve_serial(&tree, cells, host, address, string, out);
+fn serial(name: &[u8], n: Numbers, string: &[u8], tree: &[u8], cells: &mut [u8], out: &mut [u8]) {
+    let served = answer::serve::serve_serial(tree, cells, n.mark == 1, n.address, string, out);
     show::front(name, served.number, out, served.len);
 }
 
-fn udp_into(name: &[u8], cells: &mut [u8], host: bool, datagram: &[u8], out: &mut [u8]) {
-    let tree = bench::tree();
-    let served = answer::serve::serve_udp(&tree, cells, host, datagram, out);
+fn udp(name: &[u8], n: Numbers, datagram: &[u8], tree: &[u8], cells: &mut [u8], out: &mut [u8]) {
+    let served = answer::serve::serve_udp(tree, cells, n.mark == 1, datagram, out);
     show::front(name, served.number, out, served.len);
-}
-
-// Request data: with host functions on or off, and with too little room or cells that do not fit the tree.
-pub(crate) fn data(name: &[u8], host: bool, request: &[u8]) {
-    let tree = bench::tree();
-    let mut cells = cells::bench::cells();
-    let mut out = [0u8; 256];
-    data_into(name, &tree, &mut cells, host, request, &mut out);
-}
-
-pub(crate) fn data_no_room(name: &[u8], request: &[u8]) {
-    let tree = bench::tree();
-    let mut cells = cells::bench::cells();
-    let mut out = [0u8; 255];
-    data_into(name, &tree, &mut cells, true, request, &mut out);
-}
-
-pub(crate) fn data_unsound(name: &[u8], request: &[u8]) {
-    let tree = bench::tree();
-    let mut cells = [0u8; 24];
-    let mut out = [0u8; 256];
-    data_into(name, &tree, &mut cells, true, request, &mut out);
-}
-
-// Two requests over the same cells.
-pub(crate) fn twice(name: &[u8], first: &[u8], second: &[u8]) {
-    let tree = bench::tree();
-    let mut cells = cells::bench::cells();
-    let mut out = [0u8; 256];
-    let mut after = [0u8; 256];
-    data_into(name, &tree, &mut cells, true, first, &mut out);
-    data_into(name, &tree, &mut cells, true, second, &mut after);
-}
-
-// Request data over the other trees.
-pub(crate) fn limits(name: &[u8], request: &[u8]) {
-    let tree = trees::limits_tree();
-    let mut cells = trees::limits_cells();
-    let mut out = [0u8; 256];
-    data_into(name, &tree, &mut cells, true, request, &mut out);
-}
-
-pub(crate) fn penko(name: &[u8], request: &[u8]) {
-    let tree = trees::penko_tree();
-    let mut cells = trees::penko_cells();
-    let mut out = [0u8; 256];
-    data_into(name, &tree, &mut cells, true, request, &mut out);
-}
-
-// A serial string, and a datagram.
-pub(crate) fn serial(name: &[u8], host: bool, address: u8, string: &[u8]) {
-    let mut cells = cells::bench::cells();
-    let mut out = [0u8; 520];
-    serial_into(name, &mut cells, host, address, string, &mut out);
-}
-
-pub(crate) fn serial_no_room(name: &[u8], string: &[u8]) {
-    let mut cells = cells::bench::cells();
-    let mut out = [0u8; 519];
-    serial_into(name, &mut cells, true, 0, string, &mut out);
-}
-
-pub(crate) fn serial_unsound(name: &[u8], string: &[u8]) {
-    let mut cells = [0u8; 24];
-    let mut out = [0u8; 520];
-    serial_into(name, &mut cells, true, 0, string, &mut out);
-}
-
-pub(crate) fn udp(name: &[u8], host: bool, datagram: &[u8]) {
-    let mut cells = cells::bench::cells();
-    let mut out = [0u8; 260];
-    udp_into(name, &mut cells, host, datagram, &mut out);
-}
-
-pub(crate) fn udp_no_room(name: &[u8], datagram: &[u8]) {
-    let mut cells = cells::bench::cells();
-    let mut out = [0u8; 259];
-    udp_into(name, &mut cells, true, datagram, &mut out);
-}
-
-pub(crate) fn udp_unsound(name: &[u8], datagram: &[u8]) {
-    let mut cells = [0u8; 24];
-    let mut out = [0u8; 260];
-    udp_into(name, &mut cells, true, datagram, &mut out);
 }
 
 // A posting; the bytes are those of all cells afterwards.
-pub(crate) fn post(name: &[u8], place: usize, word: u32, ready: bool) {
-    let tree = bench::tree();
-    let mut cells = cells::bench::cells();
-    let number = cells::update::post(&tree, &mut cells, place, word, ready);
-    show::line(name, number, &cells);
+fn post(name: &[u8], n: Numbers, tree: &[u8], cells: &mut [u8]) {
+    let place = word::wide(n.index);
+    let number = cells::update::post(tree, cells, place, n.value, n.mark == 1);
+    show::line(name, number, cells);
 }
 
-pub(crate) fn post_unsound(name: &[u8], place: usize, word: u32, ready: bool) {
-    let tree = bench::tree();
-    let mut cells = [0u8; 24];
-    let number = cells::update::post(&tree, &mut cells, place, word, ready);
-    show::line(name, number, &cells);
-}
-
-// Saved cells restored, and a request over them; the bytes are those of all cells, then the reply.
-pub(crate) fn restore(name: &[u8], request: &[u8]) {
-    let tree = bench::tree();
-    let mut cells = cells::bench::cells();
-    let mut out = [0u8; 256];
-    let number = cells::update::restore(&tree, &mut cells);
-    show::line(name, number, &cells);
-    data_into(name, &tree, &mut cells, true, request, &mut out);
-}
-
-pub(crate) fn restore_unsound(name: &[u8]) {
-    let tree = bench::tree();
-    let mut cells = [0u8; 24];
-    let number = cells::update::restore(&tree, &mut cells);
-    show::line(name, number, &cells);
+// The bytes are those of all cells afterwards.
+fn restore(name: &[u8], tree: &[u8], cells: &mut [u8]) {
+    let number = cells::update::restore(tree, cells);
+    show::line(name, number, cells);
 }
 
 // A reading: 0 and the word, or row 12.
-pub(crate) fn reading(name: &[u8], place: usize) {
-    let tree = bench::tree();
-    let cells = cells::bench::cells();
-    let Reading::Word(n) = cells::cell::reading(&tree, &cells, place) else {
+fn reading(name: &[u8], n: Numbers, tree: &[u8], cells: &[u8]) {
+    let place = word::wide(n.index);
+    let Reading::Word(w) = cells::cell::reading(tree, cells, place) else {
         show::line(name, NO_READING, b"");
         return;
     };
     let word = [
-        (n / 16777216 % 256) as u8,
-        (n / 65536 % 256) as u8,
-        (n / 256 % 256) as u8,
-        (n % 256) as u8,
+        (w / 16777216 % 256) as u8,
+        (w / 65536 % 256) as u8,
+        (w / 256 % 256) as u8,
+        (w % 256) as u8,
     ];
     show::line(name, 0, &word);
+}
+
+// A request, where there is one.
+fn data_if_any(
+    name: &[u8],
+    n: Numbers,
+    request: &[u8],
+    tree: &[u8],
+    cells: &mut [u8],
+    out: &mut [u8],
+) {
+    if 0 < request.len() {
+        data(name, n, request, tree, cells, out);
+    }
+}
+
+// Runs a case. Returns whether its kind is known.
+pub(crate) fn run(
+    name: &[u8],
+    n: Numbers,
+    first: &[u8],
+    second: &[u8],
+    tree: &[u8],
+    cells: &mut [u8],
+    out: &mut [u8],
+) -> bool {
+    let kind = n.kind;
+    match kind {
+        0x30 => {
+            data(name, n, first, tree, cells, out);
+            data_if_any(name, n, second, tree, cells, out);
+        }
+        0x31 => serial(name, n, first, tree, cells, out),
+        0x32 => udp(name, n, first, tree, cells, out),
+        0x33 => post(name, n, tree, cells),
+        0x34 => {
+            restore(name, tree, cells);
+            data_if_any(name, n, first, tree, cells, out);
+        }
+        0x35 => reading(name, n, tree, cells),
+        _ => return false,
+    }
+    true
 }

@@ -35,3 +35,7 @@ pub(crate) fn front(name: &[u8], number: u8, out: &[u8], len: usize) {
     }
     line(name, number, &out[..len]);
 }
+
+pub(crate) fn broken() {
+    io::write_all(STDOUT_FILENO, b"broken\n");
+}

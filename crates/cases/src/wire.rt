@@ -1,150 +1,57 @@
-// Frames, datagrams, the stream, and requests read and written out.
+// Frames, datagrams and the stream. The kinds:
+//
+//     10  a frame written     address; first: its data
+//     11  a frame read        address; first: the string
+//     12  a datagram checked  first
+//     13  a datagram written  first: its data
+//     14  the stream reader   address; mark: the byte that fills its state; first, second: one or two deliveries
+use super::Numbers;
 use super::show;
-use protocol::PropertyIndex;
 
-pub(crate) fn write_frame(name: &[u8], address: u8, payload: &[u8]) {
-    let mut out = [0u8; 520];
-    let written = frame::write::write_frame(address, payload, &mut out);
-    show::front(name, written.number, &out, written.len);
+fn write_frame(name: &[u8], address: u8, payload: &[u8], out: &mut [u8]) {
+    let written = frame::write::write_frame(address, payload, out);
+    show::front(name, written.number, out, written.len);
 }
 
-pub(crate) fn write_frame_no_room(name: &[u8], address: u8, payload: &[u8]) {
-    let mut out = [0u8; 519];
-    let written = frame::write::write_frame(address, payload, &mut out);
-    show::front(name, written.number, &out, written.len);
+fn read_frame(name: &[u8], address: u8, string: &[u8], out: &mut [u8]) {
+    let written = frame::read::read_frame(address, string, out);
+    show::front(name, written.number, out, written.len);
 }
 
-pub(crate) fn read_frame(name: &[u8], address: u8, string: &[u8]) {
-    let mut out = [0u8; 256];
-    let written = frame::read::read_frame(address, string, &mut out);
-    show::front(name, written.number, &out, written.len);
-}
-
-pub(crate) fn read_frame_no_room(name: &[u8], address: u8, string: &[u8]) {
-    let mut out = [0u8; 255];
-    let written = frame::read::read_frame(address, string, &mut out);
-    show::front(name, written.number, &out, written.len);
-}
-
-pub(crate) fn datagram(name: &[u8], d: &[u8]) {
+fn datagram(name: &[u8], d: &[u8]) {
     let number = frame::udp::datagram_number(d);
     show::line(name, number, frame::udp::datagram_data(d));
 }
 
-pub(crate) fn write_datagram(name: &[u8], payload: &[u8]) {
-    let mut out = [0u8; 260];
-    let written = frame::udp::write_datagram(payload, &mut out);
-    show::front(name, written.number, &out, written.len);
+fn write_datagram(name: &[u8], payload: &[u8], out: &mut [u8]) {
+    let written = frame::udp::write_datagram(payload, out);
+    show::front(name, written.number, out, written.len);
 }
 
-pub(crate) fn write_datagram_no_room(name: &[u8], payload: &[u8]) {
-    let mut out = [0u8; 259];
-    let written = frame::udp::write_datagram(payload, &mut out);
-    show::front(name, written.number, &out, written.len);
+fn deliver(name: &[u8], state: &mut [u8], address: u8, bytes: &[u8], out: &mut [u8]) {
+    let fed = stream::feed::feed(state, address, bytes, out);
+    show::front(name, fed.number, out, fed.len);
 }
 
-// One delivery to the stream reader, from the beginning.
-pub(crate) fn feed(name: &[u8], address: u8, bytes: &[u8]) {
-    let mut state = [0u8; 261];
-    let mut out = [0u8; 256];
-    let fed = stream::feed::feed(&mut state, address, bytes, &mut out);
-    show::front(name, fed.number, &out, fed.len);
+// One delivery to the stream reader; and where there is a second, that from where the first left the reader.
+fn feed(name: &[u8], n: Numbers, first: &[u8], second: &[u8], out: &mut [u8]) {
+    let mut state = [n.mark; 261];
+    deliver(name, &mut state, n.address, first, out);
+    if 0 < second.len() {
+        deliver(name, &mut state, n.address, second, out);
+    }
 }
 
-pub(crate) fn feed_no_room(name: &[u8], address: u8, bytes: &[u8]) {
-    let mut state = [0u8; 261];
-    let mut out = [0u8; 255];
-    let fed = stream::feed::feed(&mut state, address, bytes, &mut out);
-    show::front(name, fed.number, &out, fed.len);
-}
-
-pub(crate) fn feed_unsound(name: &[u8], address: u8, bytes: &[u8]) {
-    let mut state = [4u8; 261];
-    let mut out = [0u8; 256];
-    let fed = stream::feed::feed(&mut state, address, bytes, &mut out);
-    show::front(name, fed.number, &out, fed.len);
-}
-
-// Two deliveries, the second from where the first left the reader.
-pub(crate) fn feed_twice(name: &[u8], address: u8, first: &[u8], second: &[u8]) {
-    let mut state = [0u8; 261];
-    let mut out = [0u8; 256];
-    let fed = stream::feed::feed(&mut state, address, first, &mut out);
-    show::front(name, fed.number, &out, fed.len);
-    let mut after = [0u8; 256];
-    let then = stream::feed::feed(&mut state, address, second, &mut after);
-    show::front(name, then.number, &after, then.len);
-}
-
-// A request read, in two lines: the number with the path's 16 bytes; the op with the path's length, the index and the value.
-fn show_asked(name: &[u8], asked: request::Asked) {
-    let path = asked.path;
-    let index = asked.index;
-    let n = asked.value;
-    show::line(name, asked.number, &path);
-    show::line(
-        b"  op",
-        asked.op,
-        &[
-            (asked.len % 256) as u8,
-            index.0,
-            (n / 16777216 % 256) as u8,
-            (n / 65536 % 256) as u8,
-            (n / 256 % 256) as u8,
-            (n % 256) as u8,
-        ],
-    );
-}
-
-pub(crate) fn read_serial(name: &[u8], address: u8, string: &[u8]) {
-    show_asked(name, request::read::read_serial(address, string));
-}
-
-pub(crate) fn read_udp(name: &[u8], datagram: &[u8]) {
-    show_asked(name, request::read::read_udp(datagram));
-}
-
-pub(crate) fn write_serial(name: &[u8], address: u8, op: u8, path: &[u8], index: u8, value: u32) {
-    let mut out = [0u8; 520];
-    let written = request::write::write_serial(
-        address,
-        op,
-        path,
-        PropertyIndex(index),
-        value,
-        &mut out,
-    );
-    show::front(name, written.number, &out, written.len);
-}
-
-pub(crate) fn write_serial_no_room(
-    name: &[u8],
-    address: u8,
-    op: u8,
-    path: &[u8],
-    index: u8,
-    value: u32,
-) {
-    let mut out = [0u8; 519];
-    let written = request::write::write_serial(
-        address,
-        op,
-        path,
-        PropertyIndex(index),
-        value,
-        &mut out,
-    );
-    show::front(name, written.number, &out, written.len);
-}
-
-pub(crate) fn write_udp(name: &[u8], op: u8, path: &[u8], index: u8, value: u32) {
-    let mut out = [0u8; 260];
-    let written = request::write::write_udp(op, path, PropertyIndex(index), value, &mut out);
-    show::front(name, written.number, &out, written.len);
-}
-
-pub(crate) fn write_udp_no_room(name: &[u8], op: u8, path: &[u8], index: u8, value: u32) {
-    let mut out = [0u8; 259];
-    let written = request::write::write_udp(op, path, PropertyIndex(index), value, &mut out);
-    show::front(name, written.number, &out, written.len);
+// Runs a case. Returns whether its kind is known.
+pub(crate) fn run(name: &[u8], n: Numbers, first: &[u8], second: &[u8], out: &mut [u8]) -> bool {
+    let kind = n.kind;
+    match kind {
+        0x10 => write_frame(name, n.address, first, out),
+        0x11 => read_frame(name, n.address, first, out),
+        0x12 => datagram(name, first),
+        0x13 => write_datagram(name, first, out),
+        0x14 => feed(name, n, first, second, out),
+        _ => return false,
+    }
+    true
 }

@@ -1,0 +1,47 @@
+-- `cases::run_all` is safe and ends: each case ends behind its start. Assumes nothing.
+use Prim.Native.Nat.{_-_}
+use native.Mathlib.Omega.{arith}
+use lib.ListN.{length}
+use Rattle.cases.proofs.run_all.Statement.{statement}
+use Rattle.cases.proofs.run_all.Tie as tie
+
+abbrev Inv-loop : tie.InvT-loop
+Inv-loop text at₀ at = Unit {0}
+
+abbrev μ-loop : tie.MeasureT-loop
+μ-loop text at₀ at = length text - at
+
+loop-holds : tie.Need-loop-holds Inv-loop μ-loop
+loop-holds c = tt
+
+run-case-requires : tie.Need-run-case-requires Inv-loop μ-loop
+run-case-requires c κs = tt
+
+broken-requires : tie.Need-broken-requires Inv-loop μ-loop
+broken-requires c κs = tt
+
+returns : tie.Need-returns Inv-loop μ-loop
+returns c = tt
+
+loop-less : tie.Need-loop-less Inv-loop μ-loop
+loop-less c = omega arith
+
+loop-again : tie.Need-loop-again Inv-loop μ-loop
+loop-again c = tt
+
+returns-2 : tie.Need-returns-2 Inv-loop μ-loop
+returns-2 c = tt
+
+pub run-all-spec : {M : Type 1} → statement M
+run-all-spec =
+    tie.close
+    (tie.spec
+    Inv-loop
+    μ-loop
+    loop-holds
+    run-case-requires
+    broken-requires
+    returns
+    loop-less
+    loop-again
+    returns-2)
