@@ -5,12 +5,14 @@ Usage: cases.py write      writes the files of crates/cases: stdin, the cases; s
 Nothing here was taken from the program's output. Each case: name, call, arguments; the answer is worked out by the rules below,
 and `SAYS` holds the answers that the documents print in full, which the rules are compared with.
 
-A case is a line of stdin, of six fields: its name, then five in hex with capital letters, and `|` between two fields.
+A line of stdin has five fields with `|` between them: the name of the case, then four in hex with capital letters.
 
-    name|numbers|first|second|tree|cells
+    name|numbers|string|tree|lent
 
-The numbers are 11 bytes: kind of case, room for the output (two bytes), address, mark, op, index, value (four bytes), each high
-byte first; `CALLS` has the kinds, and crates/cases/src what each does with its fields. What a kind does not need is 0 or empty.
+The numbers are 12 bytes: kind, room for the output (two bytes), size of what is lent (two bytes), address, mark, index, value
+(four bytes), each high byte first. Lent are cells or a stream state; where the field is empty, they are as the line before left
+them. `CALLS` has the kinds, and crates/cases/src says what each does with its numbers. What a kind does not need is 0 or empty.
+A case that has two lines of stdout has two of stdin.
 """
 import pathlib
 import sys
@@ -511,44 +513,62 @@ def lines():
             yield ("  op" if k == 1 and call.startswith("read_") else name) + ": " + says
 
 
-# The cases as lines of stdin. For each call: its kind, the room that it asks for, and the fields that its arguments fill.
+# The cases as lines of stdin. For each call: its kind, the room that it asks for, and the numbers that its arguments are, in order;
+# the argument that is bytes is the string. 520 for a call that has no output of its own.
 CALLS = {
-    "write_frame": (0x10, 520, ("address", "first")),
-    "read_frame": (0x11, 256, ("address", "first")),
-    "datagram": (0x12, 0, ("first",)),
-    "write_datagram": (0x13, 260, ("first",)),
-    "feed": (0x14, 256, ("address", "first", "second")),
-    "read_serial": (0x20, 0, ("address", "first")),
-    "read_udp": (0x21, 0, ("first",)),
-    "write_serial": (0x22, 520, ("address", "op", "first", "index", "value")),
-    "write_udp": (0x23, 260, ("op", "first", "index", "value")),
-    "data": (0x30, 256, ("first", "second")),
-    "serial": (0x31, 520, ("address", "first")),
-    "udp": (0x32, 260, ("first",)),
-    "post": (0x33, 0, ("index", "value", "mark")),
-    "restore": (0x34, 256, ("first",)),
-    "reading": (0x35, 0, ("index",)),
+    "write_frame": (0x10, 520, ("address",)),
+    "read_frame": (0x11, 256, ("address",)),
+    "datagram": (0x12, 520, ()),
+    "write_datagram": (0x13, 260, ()),
+    "feed": (0x14, 256, ("address",)),
+    "read_serial": (0x20, 520, ("address",)),
+    "read_serial_fields": (0x21, 520, ("address",)),
+    "read_udp": (0x22, 520, ()),
+    "read_udp_fields": (0x23, 520, ()),
+    "write_serial": (0x24, 520, ("address", "mark", "index", "value")),
+    "write_udp": (0x25, 260, ("mark", "index", "value")),
+    "data": (0x30, 256, ()),
+    "serial": (0x31, 520, ("address",)),
+    "udp": (0x32, 260, ()),
+    "post": (0x33, 520, ("index", "value", "mark")),
+    "restore": (0x34, 520, ()),
+    "reading": (0x35, 520, ("index",)),
 }
 
 
-def record(name, call, args):
+def steps(name, base, args):
+    """The calls of a case, one for each line: name, call, arguments."""
+    if base in ("read_serial", "read_udp"):
+        return [(name, base, args), ("  op", base + "_fields", args)]
+    if base == "feed_twice":
+        return [(name, "feed", [args[0], bs]) for bs in args[1:]]
+    if base == "restore":
+        return [(name, "restore", [])] + [(name, "data", [d]) for d in args]
+    if base in ("data", "twice", "limits", "penko"):
+        return [(name, "data", [d]) for d in args]
+    return [(name, base, args)]
+
+
+def records(name, call, args):
     base, no_room, unsound, off = variant(call)
-    tree = tree_of(base)
-    base = {"twice": "data", "limits": "data", "penko": "data", "feed_twice": "feed"}.get(base, base)
-    kind, room, fields = CALLS[base]
-    # The byte that fills the stream state, where it is unsound; or host functions on.
-    mark = 4 * unsound if base == "feed" else int(base in ("data", "serial", "udp", "restore") and not off)
-    f = {"mark": mark, **dict(zip(fields, args))}
-    numbers = bytes([kind]) + (room - no_room).to_bytes(2, "big")
-    numbers += bytes(f.get(field, 0) for field in ("address", "mark", "op", "index")) + f.get("value", 0).to_bytes(4, "big")
-    lent = [b"", b""] if kind < 0x30 else [tree.form(), bytes(24) if unsound else tree.cell_bytes()]
-    return "|".join([name] + [bs.hex().upper() for bs in [numbers, f.get("first", b""), f.get("second", b""), *lent]])
+    tree, lent = b"", b""
+    if base in ("feed", "feed_twice"):
+        lent = bytes([4 if unsound else 0]) * 261
+    elif base in ("data", "twice", "limits", "penko", "serial", "udp", "post", "restore", "reading"):
+        tree, lent = tree_of(base).form(), bytes(24) if unsound else tree_of(base).cell_bytes()
+    for k, (title, step, values) in enumerate(steps(name, base, args)):
+        kind, room, names = CALLS[step]
+        n = {"address": 0, "mark": 0 if off else 1, "index": 0, "value": 0, **dict(zip(names, (v for v in values if isinstance(v, int))))}
+        numbers = bytes([kind]) + (room - no_room).to_bytes(2, "big") + len(lent).to_bytes(2, "big")
+        numbers += bytes([n["address"], n["mark"], n["index"]]) + n["value"].to_bytes(4, "big")
+        string = b"".join(v for v in values if isinstance(v, bytes))
+        yield "|".join([title] + [bs.hex().upper() for bs in (numbers, string, tree, b"" if k else lent)])
 
 
 def main(words):
     crate = pathlib.Path(__file__).parent.parent / "crates/cases"
-    records = (record(name, call, args) for name, call, *args in CASES)
-    files = {"stdin": "".join(r + "\n" for r in records), "stdout": "".join(line + "\n" for line in lines())}
+    cases = [line for name, call, *args in CASES for line in records(name, call, args)]
+    files = {"stdin": "".join(line + "\n" for line in cases), "stdout": "".join(line + "\n" for line in lines())}
     if words == ["write"]:
         for name, text in files.items():
             (crate / name).write_bytes(text.encode())

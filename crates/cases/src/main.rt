@@ -1,38 +1,40 @@
-// The cases of documents 01 and 003, a line or two each: name, number, bytes. They come from standard input, which
-// tests/cases.py writes, with what this program must print.
+// The cases of documents 01 and 003. Each is a line of standard input and gives a line of output: name, number, bytes.
+// tests/cases.py writes both, and works out what this program must print.
 //
-// A case is a line of six fields: its name, then five in hex with capital letters, and `|` between two fields.
+// A line has five fields with `|` between them: the name of the case, then four in hex with capital letters.
 //
-//     name|numbers|first|second|tree|cells
+//     name|numbers|string|tree|lent
 //
-// The numbers are 11 bytes: kind of case, room for the output (two bytes), address, mark, op, index, value (four bytes), each
-// high byte first; the kinds are listed in wire.rt, requests.rt and serve.rt. What a kind does not need is 0 or empty. A case
-// that is not of this form or of no known kind prints `broken`, and is the last.
+// The numbers are 12 bytes: kind, room for the output (two bytes), size of what is lent (two bytes), address, mark, index,
+// value (four bytes), each high byte first. Lent are cells or a stream state; where the field is empty, they are as the line
+// before left them. The kinds stand in wire.rt, requests.rt and serve.rt. What a kind does not need is 0 or empty.
+// A line that is not of this form, or whose kind is not known, prints `broken` and is the last.
 mod record;
 mod requests;
 mod serve;
 mod show;
 mod wire;
 
+use frame::Written;
 use libc::STDIN_FILENO;
 use record::BROKEN;
 
 // How many bytes the numbers of a case are.
-const NUMBERS: usize = 11;
+const NUMBERS: usize = 12;
 
 // The most bytes that a field has.
 const FIELD_ROOM: usize = 1024;
 
-// The most room that a call asks for its output.
+// The most room that a case gives its output.
 const OUT_ROOM: usize = 520;
 
 // The numbers of a case.
 pub(crate) struct Numbers {
     pub kind: u8,
     pub room: isize,
+    pub lent: isize,
     pub address: u8,
     pub mark: u8,
-    pub op: u8,
     pub index: u8,
     pub value: u32,
 }
@@ -41,36 +43,48 @@ fn numbers_of(b: &[u8; NUMBERS]) -> Numbers {
     Numbers {
         kind: b[0],
         room: word::half_of(b[1], b[2]) as isize,
-        address: b[3],
-        mark: b[4],
-        op: b[5],
-        index: b[6],
-        value: word::word_of(b[7], b[8], b[9], b[10]),
+        lent: word::half_of(b[3], b[4]) as isize,
+        address: b[5],
+        mark: b[6],
+        index: b[7],
+        value: word::word_of(b[8], b[9], b[10], b[11]),
     }
 }
 
-// Runs a case by its kind. Returns whether the kind is known.
-fn run_kind(
-    name: &[u8],
-    n: Numbers,
-    first: &[u8],
-    second: &[u8],
-    tree: &[u8],
-    cells: &mut [u8],
-) -> bool {
-    let mut out = [0u8; OUT_ROOM];
-    let room = io::count(n.room, &out);
+// Makes the call of a case. The length is BROKEN where the kind is not known.
+fn run_kind(n: Numbers, string: &[u8], tree: &[u8], lent: &mut [u8], out: &mut [u8]) -> Written {
     if n.kind < 0x20 {
-        return wire::run(name, n, first, second, &mut out[..room]);
+        return wire::run(n, string, lent, out);
     }
     if n.kind < 0x30 {
-        return requests::run(name, n, first, &mut out[..room]);
+        return requests::run(n, string, out);
     }
-    serve::run(name, n, first, second, tree, cells, &mut out[..room])
+    serve::run(n, string, tree, lent, out)
+}
+
+// The same, and its line. Returns false where the kind is not known.
+fn show_kind(
+    name: &[u8],
+    n: Numbers,
+    string: &[u8],
+    tree: &[u8],
+    lent: &mut [u8],
+    out: &mut [u8],
+) -> bool {
+    let written = run_kind(n, string, tree, lent, out);
+    show::front(name, written.number, out, written.len)
+}
+
+// The same with the room and the size that the numbers give.
+fn run_in_room(name: &[u8], n: Numbers, string: &[u8], tree: &[u8], lent: &mut [u8]) -> bool {
+    let mut out = [0u8; OUT_ROOM];
+    let room = io::count(n.room, &out);
+    let size = io::count(n.lent, lent);
+    show_kind(name, n, string, tree, &mut lent[..size], &mut out[..room])
 }
 
 // Runs the case that starts at a place. Returns where the next one starts, 0 where this one is broken.
-fn run_case(text: &[u8], from: usize) -> usize {
+fn run_case(text: &[u8], from: usize, lent: &mut [u8]) -> usize {
     let end = record::field_end(text, from, b'|');
     if text.len() <= end {
         return 0;
@@ -78,46 +92,30 @@ fn run_case(text: &[u8], from: usize) -> usize {
     let name = &text[from..end];
     let mut b = [0u8; NUMBERS];
     let numbers = record::field(text, end + 1, b'|', &mut b);
-    let mut first = [0u8; FIELD_ROOM];
-    let first_part = record::field(text, numbers.next, b'|', &mut first);
-    let f = first_part.len;
-    let first_bytes = &first[..f];
-    let mut second = [0u8; FIELD_ROOM];
-    let second_part = record::field(text, first_part.next, b'|', &mut second);
-    let s = second_part.len;
-    let second_bytes = &second[..s];
-    let mut tree = [0u8; FIELD_ROOM];
-    let tree_part = record::field(text, second_part.next, b'|', &mut tree);
-    let t = tree_part.len;
-    let tree_bytes = &tree[..t];
-    let mut cells = [0u8; FIELD_ROOM];
-    let cells_part = record::field(text, tree_part.next, b'\n', &mut cells);
-    let c = cells_part.len;
     if numbers.len != NUMBERS {
         return 0;
     }
-    if cells_part.next == BROKEN {
+    let mut string = [0u8; FIELD_ROOM];
+    let string_part = record::field(text, numbers.next, b'|', &mut string);
+    let s = string_part.len;
+    let mut tree = [0u8; FIELD_ROOM];
+    let tree_part = record::field(text, string_part.next, b'|', &mut tree);
+    let t = tree_part.len;
+    let lent_part = record::field(text, tree_part.next, b'\n', lent);
+    if lent_part.next == BROKEN {
         return 0;
     }
-    let n = numbers_of(&b);
-    if run_kind(
-        name,
-        n,
-        first_bytes,
-        second_bytes,
-        tree_bytes,
-        &mut cells[..c],
-    ) {
-        return cells_part.next;
+    if run_in_room(name, numbers_of(&b), &string[..s], &tree[..t], lent) {
+        return lent_part.next;
     }
     0
 }
 
 // Runs all cases of a text.
-fn run_all(text: &[u8]) {
+fn run_all(text: &[u8], lent: &mut [u8]) {
     let mut at = 0;
     while at < text.len() {
-        let next = run_case(text, at);
+        let next = run_case(text, at, lent);
         if next <= at {
             show::broken();
             return;
@@ -128,11 +126,12 @@ fn run_all(text: &[u8]) {
 
 // A text that fills the buffer may be longer than it.
 fn main() {
-    let mut text = io::large_buffer();
+    let mut text = [0u8; 131072];
     let n = io::read_full(STDIN_FILENO, &mut text);
     if n == text.len() {
         show::broken();
         return;
     }
-    run_all(&text[..n]);
+    let mut lent = [0u8; FIELD_ROOM];
+    run_all(&text[..n], &mut lent);
 }

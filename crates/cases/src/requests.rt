@@ -1,54 +1,52 @@
 // Requests read and written out. The kinds:
 //
-//     20  a serial string read  address; first: the string
-//     21  a datagram read       first
-//     22  a serial string       address, op, index, value; first: the path
-//     23  a datagram            op, index, value; first: the path
+//     20  a serial string read  address; string
+//     21  the same
+//     22  a datagram read       string: the datagram
+//     23  the same
+//     24  a serial string       address, mark: its op, index, value; string: its path
+//     25  a datagram            mark: its op, index, value; string: its path
+//
+// A request that was read takes two lines. In 20 and 22 the bytes are the 16 of the path; in 21 and 23 the number is the op, and
+// the bytes are the path's length, the index and the value.
 use super::Numbers;
-use super::show;
+use super::record;
+use super::record::BROKEN;
+use frame::Written;
+use frame::buffer;
 use protocol::PropertyIndex;
+use request::Asked;
 
-// A request read, in two lines: the number with the path's 16 bytes; the op with the path's length, the index and the value.
-fn show_asked(name: &[u8], asked: request::Asked) {
+fn path_of(asked: Asked, out: &mut [u8]) -> Written {
     let path = asked.path;
-    let index = asked.index;
-    let n = asked.value;
-    show::line(name, asked.number, &path);
-    show::line(
-        b"  op",
-        asked.op,
-        &[
-            (asked.len % 256) as u8,
-            index.0,
-            (n / 16777216 % 256) as u8,
-            (n / 65536 % 256) as u8,
-            (n / 256 % 256) as u8,
-            (n % 256) as u8,
-        ],
-    );
-}
-
-fn write_serial(name: &[u8], n: Numbers, path: &[u8], out: &mut [u8]) {
-    let index = PropertyIndex(n.index);
-    let written = request::write::write_serial(n.address, n.op, path, index, n.value, out);
-    show::front(name, written.number, out, written.len);
-}
-
-fn write_udp(name: &[u8], n: Numbers, path: &[u8], out: &mut [u8]) {
-    let index = PropertyIndex(n.index);
-    let written = request::write::write_udp(n.op, path, index, n.value, out);
-    show::front(name, written.number, out, written.len);
-}
-
-// Runs a case. Returns whether its kind is known.
-pub(crate) fn run(name: &[u8], n: Numbers, first: &[u8], out: &mut [u8]) -> bool {
-    let kind = n.kind;
-    match kind {
-        0x20 => show_asked(name, request::read::read_serial(n.address, first)),
-        0x21 => show_asked(name, request::read::read_udp(first)),
-        0x22 => write_serial(name, n, first, out),
-        0x23 => write_udp(name, n, first, out),
-        _ => return false,
+    Written {
+        number: asked.number,
+        len: buffer::put_all(&path, out, 0),
     }
-    true
+}
+
+fn fields_of(asked: Asked, out: &mut [u8]) -> Written {
+    let index = asked.index;
+    let at = buffer::put_all(&[(asked.len % 256) as u8, index.0], out, 0);
+    Written {
+        number: asked.op,
+        len: record::put_word(asked.value, out, at),
+    }
+}
+
+pub(crate) fn run(n: Numbers, string: &[u8], out: &mut [u8]) -> Written {
+    let kind = n.kind;
+    let index = PropertyIndex(n.index);
+    match kind {
+        0x20 => path_of(request::read::read_serial(n.address, string), out),
+        0x21 => fields_of(request::read::read_serial(n.address, string), out),
+        0x22 => path_of(request::read::read_udp(string), out),
+        0x23 => fields_of(request::read::read_udp(string), out),
+        0x24 => request::write::write_serial(n.address, n.mark, string, index, n.value, out),
+        0x25 => request::write::write_udp(n.mark, string, index, n.value, out),
+        _ => Written {
+            number: 0,
+            len: BROKEN,
+        },
+    }
 }

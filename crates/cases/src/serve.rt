@@ -1,101 +1,77 @@
-// Serving calls, postings and readings, over a tree and its cells. The kinds:
+// Serving calls, postings, cells restored and readings, over a tree and the cells that are lent. The kinds:
 //
-//     30  request data served   mark; first, second: one or two requests, over the same cells
-//     31  a serial string       address, mark; first: the string
-//     32  a datagram            mark; first
-//     33  a posting             index: its place; value: its word; mark: whether it is ready
-//     34  saved cells restored  mark; first: a request over them, if any
+//     30  request data          mark: 1 with host functions on; string: the data
+//     31  a serial string       address, mark: the same; string
+//     32  a datagram            mark: the same; string: the datagram
+//     33  a posting             index: its place; value: its word; mark: 1 where it is ready
+//     34  saved cells restored
 //     35  a reading             index: its place
 //
-// Where a request is served, the mark is 1 with host functions on.
+// In 33 and 34 the bytes are those of all cells afterwards, in 35 those of the word.
 use super::Numbers;
-use super::show;
+use super::record;
+use super::record::BROKEN;
+use answer::Served;
 use cells::Reading;
+use frame::Written;
+use frame::buffer;
 use protocol::NO_READING;
 
-fn data(name: &[u8], n: Numbers, request: &[u8], tree: &[u8], cells: &mut [u8], out: &mut [u8]) {
-    let served = answer::serve::serve_data(tree, cells, n.mark == 1, request, out);
-    show::front(name, served.number, out, served.len);
+fn reply_of(served: Served) -> Written {
+    Written {
+        number: served.number,
+        len: served.len,
+    }
 }
 
-fn serial(name: &[u8], n: Numbers, string: &[u8], tree: &[u8], cells: &mut [u8], out: &mut [u8]) {
-    let served = answer::serve::serve_serial(tree, cells, n.mark == 1, n.address, string, out);
-    show::front(name, served.number, out, served.len);
-}
-
-fn udp(name: &[u8], n: Numbers, datagram: &[u8], tree: &[u8], cells: &mut [u8], out: &mut [u8]) {
-    let served = answer::serve::serve_udp(tree, cells, n.mark == 1, datagram, out);
-    show::front(name, served.number, out, served.len);
-}
-
-// A posting; the bytes are those of all cells afterwards.
-fn post(name: &[u8], n: Numbers, tree: &[u8], cells: &mut [u8]) {
+fn post(n: Numbers, tree: &[u8], cells: &mut [u8], out: &mut [u8]) -> Written {
     let place = word::wide(n.index);
-    let number = cells::update::post(tree, cells, place, n.value, n.mark == 1);
-    show::line(name, number, cells);
+    Written {
+        number: cells::update::post(tree, cells, place, n.value, n.mark == 1),
+        len: buffer::put_all(cells, out, 0),
+    }
 }
 
-// The bytes are those of all cells afterwards.
-fn restore(name: &[u8], tree: &[u8], cells: &mut [u8]) {
-    let number = cells::update::restore(tree, cells);
-    show::line(name, number, cells);
+fn restore(tree: &[u8], cells: &mut [u8], out: &mut [u8]) -> Written {
+    Written {
+        number: cells::update::restore(tree, cells),
+        len: buffer::put_all(cells, out, 0),
+    }
 }
 
-// A reading: 0 and the word, or row 12.
-fn reading(name: &[u8], n: Numbers, tree: &[u8], cells: &[u8]) {
+fn reading(n: Numbers, tree: &[u8], cells: &[u8], out: &mut [u8]) -> Written {
     let place = word::wide(n.index);
     let Reading::Word(w) = cells::cell::reading(tree, cells, place) else {
-        show::line(name, NO_READING, b"");
-        return;
+        return Written {
+            number: NO_READING,
+            len: 0,
+        };
     };
-    let word = [
-        (w / 16777216 % 256) as u8,
-        (w / 65536 % 256) as u8,
-        (w / 256 % 256) as u8,
-        (w % 256) as u8,
-    ];
-    show::line(name, 0, &word);
-}
-
-// A request, where there is one.
-fn data_if_any(
-    name: &[u8],
-    n: Numbers,
-    request: &[u8],
-    tree: &[u8],
-    cells: &mut [u8],
-    out: &mut [u8],
-) {
-    if 0 < request.len() {
-        data(name, n, request, tree, cells, out);
+    Written {
+        number: 0,
+        len: record::put_word(w, out, 0),
     }
 }
 
-// Runs a case. Returns whether its kind is known.
 pub(crate) fn run(
-    name: &[u8],
     n: Numbers,
-    first: &[u8],
-    second: &[u8],
+    string: &[u8],
     tree: &[u8],
     cells: &mut [u8],
     out: &mut [u8],
-) -> bool {
+) -> Written {
     let kind = n.kind;
+    let host = n.mark == 1;
     match kind {
-        0x30 => {
-            data(name, n, first, tree, cells, out);
-            data_if_any(name, n, second, tree, cells, out);
-        }
-        0x31 => serial(name, n, first, tree, cells, out),
-        0x32 => udp(name, n, first, tree, cells, out),
-        0x33 => post(name, n, tree, cells),
-        0x34 => {
-            restore(name, tree, cells);
-            data_if_any(name, n, first, tree, cells, out);
-        }
-        0x35 => reading(name, n, tree, cells),
-        _ => return false,
+        0x30 => reply_of(answer::serve::serve_data(tree, cells, host, string, out)),
+        0x31 => reply_of(answer::serve::serve_serial(tree, cells, host, n.address, string, out)),
+        0x32 => reply_of(answer::serve::serve_udp(tree, cells, host, string, out)),
+        0x33 => post(n, tree, cells, out),
+        0x34 => restore(tree, cells, out),
+        0x35 => reading(n, tree, cells, out),
+        _ => Written {
+            number: 0,
+            len: BROKEN,
+        },
     }
-    true
 }

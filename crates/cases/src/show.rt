@@ -14,26 +14,23 @@ fn show_bytes(bytes: &[u8]) {
     }
 }
 
-fn show_number(n: u8) {
-    io::print_decimal(STDOUT_FILENO, n as u64);
-}
-
-pub(crate) fn line(name: &[u8], number: u8, bytes: &[u8]) {
+fn line(name: &[u8], number: u8, bytes: &[u8]) {
     io::write_all(STDOUT_FILENO, name);
     io::write_all(STDOUT_FILENO, b": ");
-    show_number(number);
+    io::print_decimal(STDOUT_FILENO, number as u64);
     io::write_all(STDOUT_FILENO, b" ");
     show_bytes(bytes);
     io::write_all(STDOUT_FILENO, b"\n");
 }
 
-// The same with the first bytes of an output. A length past its end is no result of any call: the line then has another name.
-pub(crate) fn front(name: &[u8], number: u8, out: &[u8], len: usize) {
+// The line of a case, with the first bytes of an output. A length past its end is no result of any call: then there is no line,
+// and it returns false.
+pub(crate) fn front(name: &[u8], number: u8, out: &[u8], len: usize) -> bool {
     if out.len() < len {
-        line(b"length", number, out);
-        return;
+        return false;
     }
     line(name, number, &out[..len]);
+    true
 }
 
 pub(crate) fn broken() {
