@@ -1,7 +1,6 @@
 -- Laws that the proofs of this crate apply to the places of their code.
 pub mod ReadLaws
 pub mod ServeLaws
-pub mod Demands
 pub mod ReplyLaws
 pub mod WriteLaws
 pub mod AnswerLaws

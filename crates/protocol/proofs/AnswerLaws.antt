@@ -6,11 +6,11 @@ use mathlib.Core.Path.{_≡_, refl, sym, ap, subst, _∙_}
 use mathlib.Core.Bool.{Bool, true, false, cond, _&&_}
 use mathlib.Core.List.{List, [], _∷_, _++_}
 use mathlib.Core.Option.{Option, none, some, Option·none-ne-some, Option·some-injective}
-use borrow.Author.Tests.{eqb-true, eqb-false, ltb-true, leb-true, ne-eqb}
-use lib.ListN.{length, drop, getElem?, set, length-append}
+use borrow.Author.Tests.{eqb-true, eqb-false, leb-true, ne-eqb}
+use lib.ListN.{length, getD, drop, getElem?, set, length-append}
 use lib.Seq.{getD-set-same, getD-set-other}
 use lib.Dec.{eqb, ltb, leb}
-use Rattle.protocol.specs.Numbers.{done, unknownCommand, disabled, badParameter, noReading, PDI, NAK, opDetect, opNode, opRecord, opRead, opWrite, opWriteExtended, maxDepth, maxName, maxTexts, maxNodes, maxProperties}
+use Rattle.protocol.specs.Numbers.{done, unknownCommand, disabled, badParameter, noReading, PDI, BUSY, ACK, NAK, opDetect, opNode, opRecord, opRead, opWrite, opWriteExtended, maxDepth, maxName, maxTexts, maxNodes, maxProperties}
 use Rattle.protocol.specs.Bytes.{every, half, word, text, texts}
 use Rattle.protocol.specs.Frame.{Sized}
 use Rattle.protocol.specs.Request.{Request, Asked, asksIndex, asksValue, fits, askedIf, declined, beforeZero, readIndexed, readValued, readShape, readRequest}
@@ -20,20 +20,23 @@ use Rattle.protocol.proofs.TestLaws.{and-left, and-right, if-both, if-c
 use Rattle.protocol.proofs.RequestLaws.{path-most}
 use Rattle.protocol.proofs.RuleLaws.{not-readable}
 
--- What is read as a request fits the table.
+-- Data that is read: with 0 the request fits the table, and any other number is row 10 or 11.
 pub record Fits (a : Asked) : Type 0 where
   pub fit : a .number ≡ done → fits (a .request) ≡ true
+  pub late : (a .number ≡ done → ⊥) → (disabled < a .number) × (a .number ≤ badParameter)
 
-declined-fits : (n : ℕ) → ltb 0 n ≡ true → Fits (declined n)
-declined-fits n h = record { fit = λ e. absurd (omega (arith, ltb-true 0 n h, e)) }
+declined-fits : (n : ℕ) → disabled < n → n ≤ badParameter → Fits (declined n)
+declined-fits n h k = record { fit = λ e. absurd (omega (arith, e)); late = λ u. (h, k) }
+
+unknown-fits : Fits (declined unknownCommand)
+unknown-fits = declined-fits unknownCommand (omega arith) (omega arith)
+
+misfit-fits : Fits (declined badParameter)
+misfit-fits = declined-fits badParameter (omega arith) (omega arith)
 
 askedIf-fits : (r : Request) → Fits (askedIf r)
 unfolding askedIf
-askedIf-fits r = go (fits r) refl
-  where
-    go : (t : Bool) → fits r ≡ t → Fits (cond t (record { number = done; request = r }) (declined badParameter))
-    go true e = record { fit = λ h. e }
-    go false e = declined-fits badParameter refl
+askedIf-fits r = if-case Fits (fits r) (λ e. record { fit = λ h. e; late = λ u. absurd (u refl) }) (λ e. misfit-fits)
 
 readIndexed-fits : (op v : ℕ) (bs : List ℕ) → Fits (readIndexed op v bs)
 unfolding readIndexed
@@ -42,7 +45,7 @@ readIndexed-fits op v bs = askedIf-fits _
 readValued-fits : (op : ℕ) (bs : List ℕ) → Fits (readValued op bs)
 unfolding readValued
 readValued-fits op bs =
-    if-both Fits (eqb (length (drop (suc (beforeZero bs)) bs)) 4) (readIndexed-fits op _ _) (declined-fits badParameter refl)
+    if-both Fits (eqb (length (drop (suc (beforeZero bs)) bs)) 4) (readIndexed-fits op _ _) misfit-fits
 
 readShape-fits : (op : ℕ) (bs : List ℕ) → Fits (readShape op bs)
 unfolding readShape
@@ -53,10 +56,10 @@ readShape-fits op bs =
 
 pub readRequest-fits : (bs : List ℕ) → Fits (readRequest bs)
 unfolding readRequest
-readRequest-fits [] = declined-fits badParameter refl
-readRequest-fits (c ∷ []) = if-both Fits (eqb c PDI) (declined-fits badParameter refl) (declined-fits unknownCommand refl)
+readRequest-fits [] = misfit-fits
+readRequest-fits (c ∷ []) = if-both Fits (eqb c PDI) misfit-fits unknown-fits
 readRequest-fits (c ∷ op ∷ bs) =
-    if-both Fits (eqb c PDI && leb op opWriteExtended) (readShape-fits op bs) (declined-fits unknownCommand refl)
+    if-both Fits (eqb c PDI && leb op opWriteExtended) (readShape-fits op bs) unknown-fits
 
 -- The lengths of a reply's parts.
 length-text : (s : List ℕ) → length (text s) ≡ length s + 1
@@ -157,62 +160,6 @@ module _ (r : Request) (path : length (r .path) ≤ maxDepth) where
   unfolding writeReply word
   write-size o = indexed-size _ (omega (arith, ending-short (eqb (r .op) opWrite) o))
 
--- An answer whose reply has 1 to 256 bytes.
-pub record Replies (a : Answer) : Type 0 where
-  pub size : Sized (a .reply)
-
-plain-replies : (cs : List Cell) (n : ℕ) (bs : List ℕ) → Sized bs → Replies (plain cs n bs)
-plain-replies cs n bs h = record { size = h }
-
-refuse-replies : (cs : List Cell) (n : ℕ) → Replies (refuse cs n)
-refuse-replies cs n = record { size = record { least = omega arith; most = omega arith } }
-
-module _ (t : Tree) (cs : List Cell) (r : Request) (short : Texts t) (path : length (r .path) ≤ maxDepth) where
-  property-replies : (place : ℕ) → Replies (onProperty t cs r place)
-  unfolding onProperty onRead onWrite
-  property-replies place =
-      if-both Replies (eqb (r .op) opRecord)
-      (plain-replies cs done _ (record-size r path t short place))
-      (if-both Replies (eqb (r .op) opRead)
-      (if-both Replies (readable (propertyIn t place) (cellIn cs place))
-      (plain-replies cs done _ (read-size r path (cellIn cs place)))
-      (refuse-replies cs noReading))
-      (record { size = write-size r path (outcome (propertyIn t place) (r .value)) }))
-
-  ifProperty-replies : (o : Option ℕ) → Replies (ifProperty t cs r o)
-  unfolding ifProperty
-  ifProperty-replies none = refuse-replies cs badParameter
-  ifProperty-replies (some place) = property-replies place
-
-  ifNode-replies : (o : Option ℕ) → Replies (ifNode t cs r o)
-  unfolding ifNode
-  ifNode-replies none = refuse-replies cs badParameter
-  ifNode-replies (some place) =
-      if-both Replies (eqb (r .op) opNode)
-      (plain-replies cs done _ (node-size r path t short place))
-      (ifProperty-replies (propertyOf t place (record { 0 = r .index })))
-
-  perform-replies : Replies (perform t cs r)
-  unfolding perform
-  perform-replies =
-      if-both Replies (eqb (r .op) opDetect)
-      (plain-replies cs done _ (record { least = omega arith; most = omega arith }))
-      (ifNode-replies (nodeAt t (r .path)))
-
--- Every reply has 1 to 256 bytes: to any data, with host functions on or off, whatever the cells hold.
-pub reply-sized : (t : Tree) → sound t ≡ true → (cs : List Cell) (host : Bool) (bs : List ℕ)
-    → Sized (answer t cs host bs .reply)
-unfolding answer ifAsked
-reply-sized t h cs false bs = refuse-replies cs disabled .size
-reply-sized t h cs true bs = go (eqb (readRequest bs .number) done) refl .size
-  where
-    go : (k : Bool) → eqb (readRequest bs .number) done ≡ k
-        → Replies (cond k (perform t cs (readRequest bs .request)) (refuse cs (readRequest bs .number)))
-    go false e = refuse-replies cs (readRequest bs .number)
-    go true e =
-        let fit : fits (readRequest bs .request) ≡ true = readRequest-fits bs .fit (eqb-true (readRequest bs .number) done e) in
-        perform-replies t cs (readRequest bs .request) (texts-short t h) (path-most (readRequest bs .request) fit)
-
 -- A request that names a property: its path has a node, and the node has a property with its index, at a place.
 pub record Finds (t : Tree) (r : Request) (place : ℕ) : Type 0 where
   pub node : ℕ
@@ -250,6 +197,117 @@ property-below t node index place h =
 pub finds-below : (t : Tree) (r : Request) (place : ℕ) → Finds t r place → place < length (t .properties)
 finds-below t r place f = property-below t (f .node) (r .index) place (f .atProperty)
 
+-- Data that is read as a request.
+abbrev pub ReadAs : List ℕ → Request → Type 0
+ReadAs bs r = readRequest bs ≡ record { number = done; request = r }
+
+-- Data that is read as a write to the property at a place.
+pub record Writes (t : Tree) (bs : List ℕ) (r : Request) (place : ℕ) : Type 0 where
+  pub asks : ReadAs bs r
+  pub writes : opRead < r .op
+  pub finds : Finds t r place
+
+-- How data is answered: a code of rows 9 to 12, a reply with 0, or what a write to a property comes to. Only the last may
+-- change a cell.
+pub data Answered (t : Tree) (cs : List Cell) (bs : List ℕ) : Answer → Type 0 where
+  coded : (n : ℕ) → disabled ≤ n → n ≤ noReading → Answered t cs bs (refuse cs n)
+  detected : Answered t cs bs (plain cs done (ACK ∷ []))
+  described : (r : Request) (node : ℕ) → ReadAs bs r → Answered t cs bs (plain cs done (nodeReply t node r))
+  recorded : (r : Request) (place : ℕ) → ReadAs bs r → Answered t cs bs (plain cs done (recordReply (propertyIn t place) r))
+  measured : (r : Request) (place : ℕ) → ReadAs bs r → Answered t cs bs (plain cs done (readReply (cellIn cs place) r))
+  written : (r : Request) (place : ℕ) → Writes t bs r place
+      → Answered t cs bs (onWrite cs place r (outcome (propertyIn t place) (r .value)))
+
+module _ (t : Tree) (cs : List Cell) (bs : List ℕ) where
+  module _ (r : Request) (asks : ReadAs bs r) where
+    property-answered : (place : ℕ) → opNode < r .op → Finds t r place → Answered t cs bs (onProperty t cs r place)
+    unfolding onProperty onRead
+    property-answered place h f =
+        if-case (Answered t cs bs) (eqb (r .op) opRecord) (λ e. recorded r place asks)
+        (λ e. if-case (Answered t cs bs) (eqb (r .op) opRead)
+        (λ q.
+        if-both (Answered t cs bs) (readable (propertyIn t place) (cellIn cs place))
+        (measured r place asks)
+        (coded noReading (omega arith) (omega arith)))
+        (λ q.
+        let above : opRead < r .op = omega (arith, eqb-false (r .op) opRecord e, eqb-false (r .op) opRead q) in
+        written r place (record { asks = asks; writes = above; finds = f })))
+
+    ifProperty-answered : (node : ℕ) → nodeAt t (r .path) ≡ some node → opNode < r .op → (o : Option ℕ)
+        → propertyOf t node (record { 0 = r .index }) ≡ o → Answered t cs bs (ifProperty t cs r o)
+    unfolding ifProperty
+    ifProperty-answered node n h none e = coded badParameter (omega arith) (omega arith)
+    ifProperty-answered node n h (some place) e = property-answered place h (record { node = node; atNode = n; atProperty = e })
+
+    ifNode-answered : opDetect < r .op → (o : Option ℕ) → nodeAt t (r .path) ≡ o → Answered t cs bs (ifNode t cs r o)
+    unfolding ifNode
+    ifNode-answered h none e = coded badParameter (omega arith) (omega arith)
+    ifNode-answered h (some node) e =
+        if-case (Answered t cs bs) (eqb (r .op) opNode) (λ q. described r node asks)
+        (λ q.
+        let above : opNode < r .op = omega (arith, eqb-false (r .op) opNode q) in
+        ifProperty-answered node e above (propertyOf t node (record { 0 = r .index })) refl)
+
+    perform-answered : Answered t cs bs (perform t cs r)
+    unfolding perform
+    perform-answered =
+        if-case (Answered t cs bs) (eqb (r .op) opDetect) (λ e. detected)
+        (λ e. ifNode-answered (omega (arith, eqb-false (r .op) opDetect e)) (nodeAt t (r .path)) refl)
+
+  -- Every answer is one of these.
+  pub answered : (host : Bool) → Answered t cs bs (answer t cs host bs)
+  unfolding answer ifAsked
+  answered false = coded disabled (omega arith) (omega arith)
+  answered true =
+      if-case (Answered t cs bs) (eqb (readRequest bs .number) done)
+      (λ e.
+      perform-answered (readRequest bs .request)
+      (ap (λ n. record { number = n; request = readRequest bs .request }) (eqb-true (readRequest bs .number) done e)))
+      (λ e.
+      let row = readRequest-fits bs .late (eqb-false (readRequest bs .number) done e) in
+      coded (readRequest bs .number) (omega (arith, row .0)) (omega (arith, row .1)))
+
+  -- Every reply has 1 to 256 bytes: to any data, with host functions on or off, whatever the cells hold.
+  read-path : (r : Request) → ReadAs bs r → length (r .path) ≤ maxDepth
+  read-path r asks =
+      path-most r (ap (λ a. fits (a .request)) (sym asks) ∙ readRequest-fits bs .fit (ap (λ a. a .number) asks))
+
+  sized : Texts t → {a : Answer} → Answered t cs bs a → Sized (a .reply)
+  unfolding onWrite
+  sized short (coded n h k) = record { least = omega arith; most = omega arith }
+  sized short detected = record { least = omega arith; most = omega arith }
+  sized short (described r node asks) = node-size r (read-path r asks) t short node
+  sized short (recorded r place asks) = record-size r (read-path r asks) t short place
+  sized short (measured r place asks) = read-size r (read-path r asks) (cellIn cs place)
+  sized short (written r place w) = write-size r (read-path r (w .asks)) (outcome (propertyIn t place) (r .value))
+
+pub reply-sized : (t : Tree) → sound t ≡ true → (cs : List Cell) (host : Bool) (bs : List ℕ)
+    → Sized (answer t cs host bs .reply)
+reply-sized t h cs host bs = sized t cs bs (texts-short t h) (answered t cs bs host)
+
+-- No reply begins with 53h.
+record Code (b : ℕ) : Type 0 where
+  not-busy : b ≡ BUSY → ⊥
+
+code-not-busy : (n : ℕ) → Code (refusalCode n)
+unfolding refusalCode
+code-not-busy n =
+    if-both Code (eqb n disabled) (record { not-busy = λ e. omega (arith, e) })
+    (if-both Code (eqb n unknownCommand) (record { not-busy = λ e. omega (arith, e) })
+    (if-both Code (eqb n badParameter) (record { not-busy = λ e. omega (arith, e) }) (record { not-busy = λ e. omega (arith, e) })))
+
+pub never-busy : (t : Tree) (cs : List Cell) (host : Bool) (bs : List ℕ) → getD (answer t cs host bs .reply) 0 0 ≡ BUSY → ⊥
+unfolding nodeReply recordReply readReply writeReply onWrite
+never-busy t cs host bs = go (answered t cs bs host)
+  where
+    go : {a : Answer} → Answered t cs bs a → getD (a .reply) 0 0 ≡ BUSY → ⊥
+    go (coded n h k) = code-not-busy n .not-busy
+    go detected = λ e. omega (arith, e)
+    go (described r node asks) = λ e. omega (arith, e)
+    go (recorded r place asks) = λ e. omega (arith, e)
+    go (measured r place asks) = λ e. omega (arith, e)
+    go (written r place w) = λ e. omega (arith, e)
+
 -- A request performed, where it names a property.
 finds-performs : (t : Tree) (cs : List Cell) (r : Request) (place : ℕ) → Finds t r place → opNode < r .op
     → perform t cs r ≡ onProperty t cs r place
@@ -259,14 +317,12 @@ finds-performs t cs r place f h =
     let tree : eqb (r .op) opNode ≡ false = ne-eqb (r .op) opNode (λ e. omega (arith, e, h)) in
     rw (detect, f .atNode, tree, f .atProperty)
 
-answer-asked : (t : Tree) (cs : List Cell) (bs : List ℕ) (r : Request)
-    → readRequest bs ≡ record { number = done; request = r } → answer t cs true bs ≡ perform t cs r
+answer-asked : (t : Tree) (cs : List Cell) (bs : List ℕ) (r : Request) → ReadAs bs r → answer t cs true bs ≡ perform t cs r
 unfolding answer ifAsked
 answer-asked t cs bs r h = ap (ifAsked t cs) h
 
 -- A live probe that is not ready is answered 58, whatever its word.
-pub open-probe : (t : Tree) (cs : List Cell) (bs : List ℕ) (r : Request) (place : ℕ)
-    → readRequest bs ≡ record { number = done; request = r } → r .op ≡ opRead → Finds t r place
+pub open-probe : (t : Tree) (cs : List Cell) (bs : List ℕ) (r : Request) (place : ℕ) → ReadAs bs r → r .op ≡ opRead → Finds t r place
     → isLive (propertyIn t place) ≡ true → cellIn cs place .ready ≡ false
     → answer t cs true bs ≡ plain cs noReading (NAK ∷ [])
 unfolding onProperty onRead refusalCode
@@ -275,12 +331,20 @@ open-probe t cs bs r place h op f live unready =
     ∙ finds-performs t cs r place f (omega (arith, op))
     ∙ rw (op, not-readable (propertyIn t place) (cellIn cs place) live unready)
 
--- A write that is accepted: it is read as a request that names a property, and the outcome is that the value is saved.
+-- A write is answered by its outcome.
+pub write-answered : (t : Tree) (cs : List Cell) (bs : List ℕ) (r : Request) (place : ℕ) → Writes t bs r place
+    → answer t cs true bs ≡ onWrite cs place r (outcome (propertyIn t place) (r .value))
+unfolding onProperty
+write-answered t cs bs r place w =
+    let above : opRead < r .op = w .writes in
+    answer-asked t cs bs r (w .asks)
+    ∙ finds-performs t cs r place (w .finds) (omega arith)
+    ∙ rw (ne-eqb (r .op) opRecord (λ e. omega (arith, e, above)), ne-eqb (r .op) opRead (λ e. omega (arith, e, above)))
+
+-- A write that is accepted: the outcome is that the value is saved.
 pub record Saves (t : Tree) (bs : List ℕ) (place value : ℕ) : Type 0 where
   pub request : Request
-  pub asks : readRequest bs ≡ record { number = done; request = request }
-  pub writes : opRead < request .op
-  pub finds : Finds t request place
+  pub writes : Writes t bs request place
   pub saves : outcome (propertyIn t place) value ≡ saved
   pub sent : request .value ≡ value
 
@@ -290,101 +354,45 @@ pub data Changes (t : Tree) (cs : List Cell) (bs : List ℕ) (after : List Cell)
   one-written : (place value : ℕ) → Saves t bs place value → after ≡ set cs place (stored (cellIn cs place) value)
       → Changes t cs bs after
 
--- An answer to data, with such cells.
-record Leaves (t : Tree) (cs : List Cell) (bs : List ℕ) (a : Answer) : Type 0 where
-  leaves : Changes t cs bs (a .cells)
-
-kept : (t : Tree) (cs : List Cell) (bs : List ℕ) (n : ℕ) (reply : List ℕ) → Leaves t cs bs (plain cs n reply)
-kept t cs bs n reply = record { leaves = none-changed refl }
-
-module _ (t : Tree) (cs : List Cell) (bs : List ℕ) (r : Request) (asks : readRequest bs ≡ record { number = done; request = r }) where
-  write-leaves : (place : ℕ) → opRead < r .op → Finds t r place
-      → Leaves t cs bs (onWrite cs place r (outcome (propertyIn t place) (r .value)))
-  unfolding onWrite cellsAfter
-  write-leaves place h f = go (outcome (propertyIn t place) (r .value)) refl
-    where
-      go : (o : Outcome) → outcome (propertyIn t place) (r .value) ≡ o → Leaves t cs bs (onWrite cs place r o)
-      go saved e =
-          record {
-            leaves =
-                one-written place (r .value)
-                (record { request = r; asks = asks; writes = h; finds = f; saves = e; sent = refl })
-                refl;
-          }
-      go taken e = record { leaves = none-changed refl }
-      go readOnly e = record { leaves = none-changed refl }
-      go outOfRange e = record { leaves = none-changed refl }
-
-  property-leaves : (place : ℕ) → opNode < r .op → Finds t r place → Leaves t cs bs (onProperty t cs r place)
-  unfolding onProperty onRead
-  property-leaves place h f =
-      if-case (Leaves t cs bs) (eqb (r .op) opRecord) (λ e. kept t cs bs done _)
-      (λ e. if-case (Leaves t cs bs) (eqb (r .op) opRead)
-      (λ e.
-      if-both (Leaves t cs bs) (readable (propertyIn t place) (cellIn cs place))
-      (kept t cs bs done _)
-      (kept t cs bs noReading _))
-      (λ e′. write-leaves place (omega (arith, eqb-false (r .op) opRecord e, eqb-false (r .op) opRead e′, h)) f))
-
-  ifProperty-leaves : (node : ℕ) → nodeAt t (r .path) ≡ some node → opNode < r .op → (o : Option ℕ)
-      → propertyOf t node (record { 0 = r .index }) ≡ o → Leaves t cs bs (ifProperty t cs r o)
-  unfolding ifProperty
-  ifProperty-leaves node n h none e = kept t cs bs badParameter _
-  ifProperty-leaves node n h (some place) e = property-leaves place h (record { node = node; atNode = n; atProperty = e })
-
-  ifNode-leaves : opDetect < r .op → (o : Option ℕ) → nodeAt t (r .path) ≡ o → Leaves t cs bs (ifNode t cs r o)
-  unfolding ifNode
-  ifNode-leaves h none e = kept t cs bs badParameter _
-  ifNode-leaves h (some node) e =
-      if-case (Leaves t cs bs) (eqb (r .op) opNode) (λ q. kept t cs bs done _)
-      (λ q.
-      let above : opNode < r .op = omega (arith, eqb-false (r .op) opNode q, h) in
-      ifProperty-leaves node e above (propertyOf t node (record { 0 = r .index })) refl)
-
-  perform-leaves : Leaves t cs bs (perform t cs r)
-  unfolding perform
-  perform-leaves =
-      if-case (Leaves t cs bs) (eqb (r .op) opDetect) (λ e. kept t cs bs done _)
-      (λ e. ifNode-leaves (omega (arith, eqb-false (r .op) opDetect e)) (nodeAt t (r .path)) refl)
-
 -- No request alters anything but the setting that an accepted write names.
 pub changes : (t : Tree) (cs : List Cell) (host : Bool) (bs : List ℕ) → Changes t cs bs (answer t cs host bs .cells)
-unfolding answer ifAsked
-changes t cs false bs = none-changed refl
-changes t cs true bs =
-    if-case (Leaves t cs bs) (eqb (readRequest bs .number) done)
-    (λ e.
-    perform-leaves t cs bs (readRequest bs .request)
-    (ap (λ n. record { number = n; request = readRequest bs .request }) (eqb-true (readRequest bs .number) done e)))
-    (λ e. kept t cs bs (readRequest bs .number) _)
-    .leaves
+unfolding onWrite cellsAfter
+changes t cs host bs = go (answered t cs bs host)
+  where
+    write : (r : Request) (place : ℕ) → Writes t bs r place → (o : Outcome) → outcome (propertyIn t place) (r .value) ≡ o
+        → Changes t cs bs (onWrite cs place r o .cells)
+    write r place w saved e =
+        one-written place (r .value) (record { request = r; writes = w; saves = e; sent = refl }) refl
+    write r place w taken e = none-changed refl
+    write r place w readOnly e = none-changed refl
+    write r place w outOfRange e = none-changed refl
+
+    go : {a : Answer} → Answered t cs bs a → Changes t cs bs (a .cells)
+    go (coded n h k) = none-changed refl
+    go detected = none-changed refl
+    go (described r node asks) = none-changed refl
+    go (recorded r place asks) = none-changed refl
+    go (measured r place asks) = none-changed refl
+    go (written r place w) = write r place w (outcome (propertyIn t place) (r .value)) refl
 
 -- An accepted write is answered with 0 and save 01, whatever the cells.
 pub write-accepted : (t : Tree) (cs : List Cell) (bs : List ℕ) (place value : ℕ) (s : Saves t bs place value)
     → answer t cs true bs ≡ onWrite cs place (s .request) saved
-unfolding onProperty
 write-accepted t cs bs place value s =
-    let r : Request = s .request in
-    let w : opRead < r .op = s .writes in
-    let reaches : onProperty t cs r place ≡ onWrite cs place r (outcome (propertyIn t place) (r .value)) =
-    rw (ne-eqb (r .op) opRecord (λ e. omega (arith, e, w)), ne-eqb (r .op) opRead (λ e. omega (arith, e, w))) in
-    answer-asked t cs bs r (s .asks)
-    ∙ finds-performs t cs r place (s .finds) (omega (arith, w))
-    ∙ reaches
-    ∙ ap (onWrite cs place r) (ap (outcome (propertyIn t place)) (s .sent) ∙ s .saves)
+    write-answered t cs bs (s .request) place (s .writes)
+    ∙ ap (onWrite cs place (s .request)) (ap (outcome (propertyIn t place)) (s .sent) ∙ s .saves)
 
--- It makes the setting's cell hold the value sent.
+-- It makes the setting's cell hold the value sent, and leaves its mark.
 pub write-holds : (t : Tree) (cs : List Cell) (bs : List ℕ) (place value : ℕ) → cellsSound t cs ≡ true → Saves t bs place value
-    → cellIn (answer t cs true bs .cells) place .word ≡ value
+    → cellIn (answer t cs true bs .cells) place ≡ stored (cellIn cs place) value
 unfolding onWrite cellsAfter cellsSound
 write-holds t cs bs place value h s =
     let r : Request = s .request in
     let size : length cs ≡ length (t .properties) =
     eqb-true (length cs) (length (t .properties)) (and-left (eqb (length cs) (length (t .properties))) _ h) in
-    ap (λ a. cellIn (a .cells) place .word) (write-accepted t cs bs place value s)
-    ∙ ap (λ c. c .word)
-    (getD-set-same cs place (stored (cellIn cs place) (r .value)) _ (omega (arith, size, finds-below t r place (s .finds))))
-    ∙ s .sent
+    ap (λ a. cellIn (a .cells) place) (write-accepted t cs bs place value s)
+    ∙ getD-set-same cs place (stored (cellIn cs place) (r .value)) _ (omega (arith, size, finds-below t r place (s .writes .finds)))
+    ∙ ap (stored (cellIn cs place)) (s .sent)
 
 pub saved-done : (cs : List Cell) (place : ℕ) (r : Request) → onWrite cs place r saved .number ≡ done
 unfolding onWrite writeNumber
@@ -405,11 +413,19 @@ others-stay t cs host bs k h = go (changes t cs host bs)
 -- Refusals 9 to 13 change no cell.
 pub refusal-keeps : (t : Tree) (cs : List Cell) (host : Bool) (bs : List ℕ) → (answer t cs host bs .number ≡ done → ⊥)
     → answer t cs host bs .cells ≡ cs
-unfolding answer
-refusal-keeps t cs false bs h = refl
-refusal-keeps t cs true bs h = go (changes t cs true bs)
+unfolding onWrite writeNumber cellsAfter
+refusal-keeps t cs host bs = go (answered t cs bs host)
   where
-    go : Changes t cs bs (answer t cs true bs .cells) → answer t cs true bs .cells ≡ cs
-    go (none-changed e) = e
-    go (one-written place value s e) =
-        absurd (h (ap (λ a. a .number) (write-accepted t cs bs place value s) ∙ saved-done cs place (s .request)))
+    write : (r : Request) (place : ℕ) (o : Outcome) → (onWrite cs place r o .number ≡ done → ⊥) → onWrite cs place r o .cells ≡ cs
+    write r place saved h = absurd (h refl)
+    write r place taken h = refl
+    write r place readOnly h = refl
+    write r place outOfRange h = refl
+
+    go : {a : Answer} → Answered t cs bs a → (a .number ≡ done → ⊥) → a .cells ≡ cs
+    go (coded n p q) h = refl
+    go detected h = refl
+    go (described r node asks) h = refl
+    go (recorded r place asks) h = refl
+    go (measured r place asks) h = refl
+    go (written r place w) h = write r place (outcome (propertyIn t place) (r .value)) h

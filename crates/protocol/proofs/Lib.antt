@@ -6,5 +6,6 @@ pub mod FrameLaws
 pub mod StreamLaws
 pub mod RequestLaws
 pub mod RuleLaws
+pub mod OutcomeLaws
 pub mod AnswerLaws
 pub mod Marked

@@ -60,7 +60,7 @@ benchTree =
       properties = probe 0x31 ∷ probe 0x32 ∷ average ∷ rate ∷ restart ∷ [];
     }
 
-abbrev cell : ℕ → Bool → Cell
+abbrev pub cell : ℕ → Bool → Cell
 cell word ready = record { word = word; ready = ready }
 
 -- Probe 1 is ready at 21.00; probe 2 is not, with the word of an 85.00 in it; the settings hold 4 and 0.

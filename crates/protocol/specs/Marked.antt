@@ -1,66 +1,59 @@
 -- 01, Bench tree and its cases: the cases that are marked to be proved, one row each. (The read case has status 01, as 003,
 -- 5.4, decides.)
 use Prim.Native.Nat.{ℕ}
-use mathlib.Core.Bool.{true}
-use mathlib.Core.List.{List, [], _∷_, _++_, map}
-use Rattle.protocol.specs.Frame.{frame}
+use mathlib.Core.Bool.{true, false}
+use mathlib.Core.List.{List, [], _∷_, _++_}
+use mathlib.Core.Option.{Option, none, some}
+use Rattle.protocol.specs.Frame.{Received, received, writeFrame}
+use Rattle.protocol.specs.Tree.{Cell}
 use Rattle.protocol.specs.Answer.{Answer, answer}
-use Rattle.protocol.specs.Bench.{benchTree, benchCells}
+use Rattle.protocol.specs.Bench.{benchTree, benchCells, cell}
 
--- What a case looks at: data answered by the bench box, from its words, with host functions on; or data framed for an
--- address.
-pub data Case : Type 0 where
-  ask : List ℕ → Case
-  write : ℕ → List ℕ → Case
+-- A case: data, and what the bench box answers to it, host functions on: number, reply, cells and action; or an address and
+-- data, and what is written: number and frame.
+pub data Row : Type 0 where
+  ask : List ℕ → Answer → Row
+  write : ℕ → List ℕ → Received → Row
 
--- What is seen: number, reply and the words afterwards; or the frame.
-pub data Seen : Type 0 where
-  answered : ℕ → List ℕ → List ℕ → Seen
-  written : List ℕ → Seen
+-- The same case with what the rules give.
+unfoldable pub result : Row → Row
+result (ask bs expected) = ask bs (answer benchTree benchCells true bs)
+result (write address bs expected) = write address bs (writeFrame address bs)
 
-abbrev shown : Answer → Seen
-shown a = answered (a .number) (a .reply) (map (λ c. c .word) (a .cells))
+-- The cells, words and marks, while "Average" holds a number.
+abbrev cellsWith : ℕ → List Cell
+cellsWith average = cell 2100 true ∷ cell 8500 false ∷ cell average false ∷ cell 0 false ∷ cell 0 false ∷ []
 
-unfoldable pub seen : Case → Seen
-seen (ask bs) = shown (answer benchTree benchCells true bs)
-seen (write address bs) = written (frame address bs)
+abbrev shows : ℕ → Option ℕ → List ℕ → ℕ → List ℕ → Row
+shows average action bs number reply =
+    ask bs (record { number = number; reply = reply; cells = cellsWith average; action = action })
 
-pub record Row : Type 0 where
-  pub given : Case
-  pub expected : Seen
+-- A row that changes no cell and takes no action; one whose reply, besides, repeats the request and adds some bytes.
+abbrev unchanged : List ℕ → ℕ → List ℕ → Row
+unchanged bs number reply = shows 4 none bs number reply
 
--- A row in which no word changes, and one in which "Average" holds another.
-abbrev same : List ℕ → ℕ → List ℕ → Row
-same bs number reply = record { given = ask bs; expected = answered number reply (2100 ∷ 8500 ∷ 4 ∷ 0 ∷ 0 ∷ []) }
-
-abbrev averaged : List ℕ → List ℕ → ℕ → Row
-averaged bs reply average = record { given = ask bs; expected = answered 0 reply (2100 ∷ 8500 ∷ average ∷ 0 ∷ 0 ∷ []) }
-
--- A request whose reply repeats it and adds some bytes.
 abbrev adds : List ℕ → ℕ → List ℕ → Row
-adds bs number more = same bs number (bs ++ more)
+adds bs number more = unchanged bs number (bs ++ more)
 
 unfoldable pub markedCases : List Row
 markedCases =
-    same (0xB4 ∷ 0x00 ∷ []) 0 (0x55 ∷ [])
+    unchanged (0xB4 ∷ 0x00 ∷ []) 0 (0x55 ∷ [])
     ∷ adds (0xB4 ∷ 0x01 ∷ 0x01 ∷ []) 0 (0x02 ∷ 0x00 ∷ 0x42 ∷ 0x6F ∷ 0x78 ∷ 0x00 ∷ [])
     ∷ adds (0xB4 ∷ 0x02 ∷ 0x01 ∷ 0x02 ∷ 0x02 ∷ []) 0
     (0x02 ∷ 0x00 ∷ 0x00 ∷ 0x00 ∷ 0x00 ∷ 0x00 ∷ 0x00 ∷ 0x00 ∷ 0x01 ∷ 0x00 ∷ 0x03 ∷ 0x10 ∷ 0x80
     ∷ 0x52 ∷ 0x61 ∷ 0x74 ∷ 0x65 ∷ 0x00 ∷ 0x53 ∷ 0x6C ∷ 0x6F ∷ 0x77 ∷ 0x00 ∷ 0x46 ∷ 0x61 ∷ 0x73 ∷ 0x74 ∷ 0x00 ∷ [])
     ∷ adds (0xB4 ∷ 0x03 ∷ 0x01 ∷ 0x01 ∷ 0x01 ∷ []) 0 (0x01 ∷ 0x00 ∷ 0x00 ∷ 0x08 ∷ 0x34 ∷ [])
-    ∷ same (0xB4 ∷ 0x03 ∷ 0x01 ∷ 0x01 ∷ 0x02 ∷ []) 12 (0x58 ∷ [])
-    ∷ averaged (0xB4 ∷ 0x04 ∷ 0x01 ∷ 0x02 ∷ 0x01 ∷ 0x00 ∷ 0x00 ∷ 0x00 ∷ 0x00 ∷ 0x40 ∷ [])
-    (0xB4 ∷ 0x04 ∷ 0x01 ∷ 0x02 ∷ 0x01 ∷ 0x00 ∷ 0x00 ∷ 0x00 ∷ 0x00 ∷ 0x40 ∷ 0x01 ∷ []) 0x40
+    ∷ unchanged (0xB4 ∷ 0x03 ∷ 0x01 ∷ 0x01 ∷ 0x02 ∷ []) 12 (0x58 ∷ [])
+    ∷ shows 0x40 none (0xB4 ∷ 0x04 ∷ 0x01 ∷ 0x02 ∷ 0x01 ∷ 0x00 ∷ 0x00 ∷ 0x00 ∷ 0x00 ∷ 0x40 ∷ []) 0
+    (0xB4 ∷ 0x04 ∷ 0x01 ∷ 0x02 ∷ 0x01 ∷ 0x00 ∷ 0x00 ∷ 0x00 ∷ 0x00 ∷ 0x40 ∷ 0x01 ∷ [])
     ∷ adds (0xB4 ∷ 0x04 ∷ 0x01 ∷ 0x02 ∷ 0x01 ∷ 0x00 ∷ 0x00 ∷ 0x00 ∷ 0x00 ∷ 0x41 ∷ []) 13 (0x00 ∷ [])
     ∷ adds (0xB4 ∷ 0x04 ∷ 0x01 ∷ 0x02 ∷ 0x02 ∷ 0x00 ∷ 0x00 ∷ 0x00 ∷ 0x00 ∷ 0x02 ∷ []) 13 (0x00 ∷ [])
-    ∷ adds (0xB4 ∷ 0x04 ∷ 0x01 ∷ 0x02 ∷ 0x03 ∷ 0x00 ∷ 0x00 ∷ 0x00 ∷ 0x00 ∷ 0x00 ∷ []) 0 (0x02 ∷ [])
+    ∷ shows 4 (some 4) (0xB4 ∷ 0x04 ∷ 0x01 ∷ 0x02 ∷ 0x03 ∷ 0x00 ∷ 0x00 ∷ 0x00 ∷ 0x00 ∷ 0x00 ∷ []) 0
+    (0xB4 ∷ 0x04 ∷ 0x01 ∷ 0x02 ∷ 0x03 ∷ 0x00 ∷ 0x00 ∷ 0x00 ∷ 0x00 ∷ 0x00 ∷ 0x02 ∷ [])
     ∷ adds (0xB4 ∷ 0x05 ∷ 0x01 ∷ 0x01 ∷ 0x01 ∷ 0x00 ∷ 0x00 ∷ 0x00 ∷ 0x00 ∷ 0x00 ∷ []) 13
     (0x00 ∷ 0x52 ∷ 0x65 ∷ 0x61 ∷ 0x64 ∷ 0x20 ∷ 0x6F ∷ 0x6E ∷ 0x6C ∷ 0x79 ∷ 0x00 ∷ [])
-    ∷ same (0xB4 ∷ 0x04 ∷ 0x01 ∷ 0x02 ∷ 0x01 ∷ 0x00 ∷ 0x00 ∷ 0x00 ∷ 0x00 ∷ []) 11 (0x54 ∷ [])
-    ∷ same (0xB4 ∷ 0x03 ∷ 0x01 ∷ 0x03 ∷ 0x01 ∷ []) 11 (0x54 ∷ [])
-    ∷ same (0xB4 ∷ 0x06 ∷ []) 10 (0x59 ∷ [])
-    ∷ record {
-      given = write 0x3B (0xB4 ∷ 0x00 ∷ []);
-      expected = written (0x10 ∷ 0x02 ∷ 0x3B ∷ 0xB4 ∷ 0x00 ∷ 0x10 ∷ 0x10 ∷ 0x10 ∷ 0x03 ∷ []);
-    }
+    ∷ unchanged (0xB4 ∷ 0x04 ∷ 0x01 ∷ 0x02 ∷ 0x01 ∷ 0x00 ∷ 0x00 ∷ 0x00 ∷ 0x00 ∷ []) 11 (0x54 ∷ [])
+    ∷ unchanged (0xB4 ∷ 0x03 ∷ 0x01 ∷ 0x03 ∷ 0x01 ∷ []) 11 (0x54 ∷ [])
+    ∷ unchanged (0xB4 ∷ 0x06 ∷ []) 10 (0x59 ∷ [])
+    ∷ write 0x3B (0xB4 ∷ 0x00 ∷ []) (received (0x10 ∷ 0x02 ∷ 0x3B ∷ 0xB4 ∷ 0x00 ∷ 0x10 ∷ 0x10 ∷ 0x10 ∷ 0x03 ∷ []))
     ∷ []

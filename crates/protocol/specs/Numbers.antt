@@ -71,9 +71,13 @@ ETX = 0x03
 abbrev pub DLE : ℕ
 DLE = 0x10
 
--- 003, section 4: the command of PDI, and the reply codes. 53h, busy, is never sent.
+-- 003, section 4: the command of PDI, and the reply codes.
 abbrev pub PDI : ℕ
 PDI = 0xB4
+
+-- never sent
+abbrev pub BUSY : ℕ
+BUSY = 0x53
 
 abbrev pub ERROR : ℕ
 ERROR = 0x54

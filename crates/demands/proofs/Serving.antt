@@ -1,0 +1,352 @@
+-- Demands 1 and 2 over the serving calls, by any transport: theorems about every call that meets its promise.
+-- Assumes nothing.
+use Prim.Native.Nat.{ℕ, zero, suc, _<_, _≤_}
+use native.Mathlib.Omega.{arith}
+use mathlib.Core.Path.{_≡_, refl, sym, ap, ap₂, subst, _∙_}
+use mathlib.Core.Bool.{Bool, true, false, cond}
+use mathlib.Core.List.{List, [], _∷_, _++_}
+use mathlib.Core.Logic.{_⊎_, inl, inr}
+use borrow.Author.Tests.{eqb-false, ltb-true, lt-ltb}
+use lib.ListN.{length, getD, take, drop, set}
+use lib.Seq.{take-at, drop-at}
+use lib.Dec.{eqb, ltb}
+use Rattle.protocol.specs.Numbers.{done, unsound, noRoom, disabled, noReading, notSaved, BUSY, DISABLED, NAK, opRead, opWrite, saveFailed, saveDone, saveNone, wordEnd}
+use Rattle.protocol.specs.Bytes.{Bytes, every, word, text}
+use Rattle.protocol.specs.Frame.{frame, datagram, wrap}
+use Rattle.protocol.specs.Buffer.{over}
+use Rattle.protocol.specs.Request.{Request, pathFits, indexFits, fits}
+use Rattle.protocol.specs.Tree.{Tree, Cell, propertyIn, cellIn, cellsSound}
+use Rattle.protocol.specs.Answer.{Answer, plain, stored, Outcome, saved, taken, readOnly, outOfRange, outcome, saveByte, reason, writeNumber, actionOf, cellsAfter, echoIndexed, writeReply, refusalCode, onWrite, answer}
+use Rattle.protocol.proofs.TestLaws.{and-left, and-right, and-both}
+use Rattle.protocol.proofs.BufferLaws.{over-nil}
+use Rattle.protocol.proofs.FrameLaws.{frame-injective, datagram-injective}
+use Rattle.protocol.proofs.AnswerLaws as laws
+use Rattle.protocol.proofs.AnswerLaws.{readRequest-fits, Answered, coded, detected, described, recorded, measured, written, open-probe, Saves, Changes, none-changed, one-written, changes, write-answered, write-accepted, write-holds, saved-done, others-stay, refusal-keeps}
+use Rattle.protocol.proofs.RuleLaws.{host-off}
+use Rattle.tree.specs.Seen.{seen, isTree}
+use Rattle.tree.specs.Cells.{cellsForm, cellsIn, hasCells}
+use Rattle.tree.specs.Lent.{isLent}
+use Rattle.tree.proofs.CellLaws.{inWidth, cells-in-form, cells-fit, lent-form}
+use Rattle.answer.specs.Reply.{actionNumber}
+use Rattle.answer.specs.Serve.{turnedAway, inForm, Call, serving, dataCall, serialCall, udpCall, serveData, serveSerial, serveUdp, Serves}
+use Rattle.answer.proofs.ReadLaws.{Early, early-sized, early-frame, early-datagram}
+use Rattle.answer.proofs.ServeLaws.{answerTo, Open, serve-by, serve-good}
+use Rattle.demands.specs.Serving.{treeIn, cellAt, AsksOpenProbe, WritesTo, SavesTo, outcomeIn, acceptedReply, Refusal, code, not-saved, Kept}
+
+-- The cells that lie beside a lent tree are sound for it.
+pub cells-sound-in : (tree cells : List ℕ) → Bytes cells → isLent tree cells ≡ true → cellsSound (seen tree) (cellsIn cells) ≡ true
+unfolding cellsSound isLent
+cells-sound-in tree cells all l =
+    and-both (and-right (hasCells cells) _ (and-right (isTree tree) _ l)) (cells-fit cells all)
+
+-- Every cell after an answer has a word of 32 bits.
+every-set : {A : Type 0} (f : A → Bool) (xs : List A) (i : ℕ) (y : A) → every f xs ≡ true → f y ≡ true → every f (set xs i y) ≡ true
+unfolding every
+every-set f [] i y h e = refl
+every-set f (x ∷ xs) zero y h e = and-both e (and-right (f x) (every f xs) h)
+every-set f (x ∷ xs) (suc i) y h e = and-both (and-left (f x) (every f xs) h) (every-set f xs i y (and-right (f x) (every f xs) h) e)
+
+value-fits : (r : Request) → fits r ≡ true → opRead < r .op → r .value < wordEnd
+unfolding fits
+value-fits r h w =
+    let both = and-right (pathFits (r .op) (r .path)) _ h in
+    let value = and-right (indexFits (r .op) (r .index)) _ both in
+    ltb-true (r .value) wordEnd (sym (ap (λ t. cond t (ltb (r .value) wordEnd) (eqb (r .value) 0)) (lt-ltb opRead (r .op) w)) ∙ value)
+
+sent-fits : (t : Tree) (bs : List ℕ) (place value : ℕ) → Saves t bs place value → value < wordEnd
+sent-fits t bs place value s =
+    let asks = s .writes .asks in
+    let fit : fits (s .request) ≡ true =
+    ap (λ a. fits (a .request)) (sym asks) ∙ readRequest-fits bs .fit (ap (λ a. a .number) asks) in
+    omega (arith, s .sent, value-fits (s .request) fit (s .writes .writes))
+
+in-width : (t : Tree) (cs : List Cell) (host : Bool) (bs : List ℕ) → inWidth cs ≡ true → inWidth (answer t cs host bs .cells) ≡ true
+in-width t cs host bs h = go (changes t cs host bs)
+  where
+    go : Changes t cs bs (answer t cs host bs .cells) → inWidth (answer t cs host bs .cells) ≡ true
+    go (none-changed e) = ap inWidth e ∙ h
+    go (one-written place value s e) =
+        ap inWidth e
+        ∙ every-set (λ c. ltb (c .word) wordEnd) cs place (stored (cellIn cs place) value) h (lt-ltb value wordEnd (sent-fits t bs place value s))
+
+-- What is assumed of a transport: rows 2 to 7 come before 9, no string is the form of two replies, and no form of a reply is empty.
+record Transport (k : Call) : Type 0 where
+  early : Early (k .string)
+  injective : (x y : List ℕ) → k .form x ≡ k .form y → x ≡ y
+  nonempty : (b : ℕ) (bs : List ℕ) → k .form (b ∷ bs) ≡ [] → ⊥
+
+-- The number of an answer is 0 or one of rows 9 to 13, and with 13 a write is not saved.
+unsaved : (o : Outcome) → 0 < writeNumber o → (writeNumber o ≡ notSaved) × (saveByte o ≡ saveFailed)
+unfolding writeNumber saveByte
+unsaved saved h = absurd (omega arith)
+unsaved taken h = absurd (omega arith)
+unsaved readOnly h = (refl, refl)
+unsaved outOfRange h = (refl, refl)
+
+late : (t : Tree) (cs : List Cell) (bs : List ℕ) {a : Answer} → Answered t cs bs a → 0 < a .number → disabled ≤ a .number
+unfolding onWrite
+late t cs bs (coded n h k) p = h
+late t cs bs detected p = absurd (omega arith)
+late t cs bs (described r node e) p = absurd (omega arith)
+late t cs bs (recorded r place e) p = absurd (omega arith)
+late t cs bs (measured r place e) p = absurd (omega arith)
+late t cs bs (written r place w) p = omega (arith, unsaved (outcome (propertyIn t place) (r .value)) p .0)
+
+-- What the save byte of a reply tells.
+save-byte : (o : Outcome) (r : Request) (save : ℕ) → writeReply o r ≡ acceptedReply r save → saveByte o ≡ save
+unfolding writeReply acceptedReply word
+save-byte o r save e =
+    let front : List ℕ = echoIndexed r in
+    sym (ap (λ l. getD l 5 0) (drop-at front (0 ∷ (word (r .value) ++ saveByte o ∷ cond (eqb (r .op) opWrite) [] (text (reason o)))) (length front) refl))
+    ∙ ap (λ l. getD (drop (length front) l) 5 0) e
+    ∙ ap (λ l. getD l 5 0) (drop-at front (0 ∷ (word (r .value) ++ save ∷ cond (eqb (r .op) opWrite) [] (text []))) (length front) refl)
+
+save-saved : (o : Outcome) → saveByte o ≡ saveDone → o ≡ saved
+unfolding saveByte
+save-saved saved e = refl
+save-saved taken e = absurd (omega arith)
+save-saved readOnly e = absurd (omega arith)
+save-saved outOfRange e = absurd (omega arith)
+
+save-taken : (o : Outcome) → saveByte o ≡ saveNone → o ≡ taken
+unfolding saveByte
+save-taken saved e = absurd (omega arith)
+save-taken taken e = refl
+save-taken readOnly e = absurd (omega arith)
+save-taken outOfRange e = absurd (omega arith)
+
+-- What was written is what the length handed back covers.
+written-front : (ys out : List ℕ) {size : ℕ} {out′ : List ℕ} → size ≡ length ys → out′ ≡ over ys out → take size out′ ≡ ys
+unfolding over
+written-front ys out e f = ap₂ take e f ∙ take-at ys (drop (length ys) out) (length ys) refl
+
+asked-58 : (k : Call) → AsksOpenProbe k
+    → answer (treeIn k) (cellsIn (k .cells)) true (k .string .payload) ≡ plain (cellsIn (k .cells)) noReading (NAK ∷ [])
+asked-58 k a =
+    open-probe (treeIn k) (cellsIn (k .cells)) (k .string .payload) (a .request) (a .place) (a .asks) (a .reads) (a .finds) (a .live) (a .not-ready)
+
+module _ (k : Call) (transport : Transport k) {out cells′ out′ : List ℕ} {n size action : ℕ}
+    (h : Serves (serving k) out n size action cells′ out′)
+  where
+    abbrev t : Tree
+    t = treeIn k
+
+    abbrev cs : List Cell
+    cs = cellsIn (k .cells)
+
+    abbrev bs : List ℕ
+    bs = k .string .payload
+
+    abbrev Answers : Type 0
+    Answers = Serves (inForm (k .form) (answerTo k)) out n size action cells′ out′
+
+    -- A call is refused with one of rows 1 to 8, or gives the answer.
+    data Handled : Type 0 where
+      not-served : 0 < n → n < disabled → cells′ ≡ k .cells → out′ ≡ out → take size out′ ≡ [] → Handled
+      served : isLent (k .tree) (k .cells) ≡ true → Answers → Handled
+
+    refuses : (m : ℕ) → 0 < m → m < disabled → serving k ≡ turnedAway (k .cells) m → Handled
+    refuses m p q e =
+        let s : Serves (turnedAway (k .cells) m) out n size action cells′ out′ = subst (λ w. Serves w out n size action cells′ out′) e h in
+        not-served (omega (arith, s .number)) (omega (arith, s .number)) (s .cells) (s .bytes ∙ over-nil out) (written-front [] out (s .len) (s .bytes))
+
+    answers : serving k ≡ inForm (k .form) (answerTo k) → Answers
+    answers e = subst (λ w. Serves w out n size action cells′ out′) e h
+
+    handled : Handled
+    handled = go (isLent (k .tree) (k .cells)) (ltb (k .room) (k .least)) (eqb (k .string .number) done) refl refl refl
+      where
+        go : (a b c : Bool) → isLent (k .tree) (k .cells) ≡ a → ltb (k .room) (k .least) ≡ b → eqb (k .string .number) done ≡ c → Handled
+        go true true c p q r = refuses noRoom (omega arith) (omega arith) (serve-by k true true c p q r)
+        go true false true p q r = served p (answers (serve-by k true false true p q r))
+        go true false false p q r =
+            refuses (k .string .number) (omega (arith, eqb-false (k .string .number) done r)) (transport .early .early) (serve-by k true false false p q r)
+        go false b c p q r = refuses unsound (omega arith) (omega arith) (serve-by k false b c p q r)
+
+    how : Answered t cs bs (answerTo k)
+    how = laws.answered t cs bs (k .host)
+
+    sent : Answers → take size out′ ≡ k .form (answerTo k .reply)
+    sent s = written-front (k .form (answerTo k .reply)) out (s .len) (s .bytes)
+
+    unchanged : isLent (k .tree) (k .cells) ≡ true → Answers → answerTo k .cells ≡ cs → cells′ ≡ k .cells
+    unchanged l s e = s .cells ∙ ap cellsForm e ∙ sym (lent-form (k .tree) (k .cells) l)
+
+    -- The cells afterwards, as they are read.
+    cells-after : Bytes (k .cells) → Answers → cellsIn cells′ ≡ answerTo k .cells
+    cells-after all s =
+        ap cellsIn (s .cells) ∙ cells-in-form (answerTo k .cells) (in-width t cs (k .host) bs (cells-fit (k .cells) all))
+
+    early-refusal : 0 < n → n < disabled → (cells′ ≡ k .cells) × (out′ ≡ out)
+    early-refusal p q = go handled
+      where
+        go : Handled → (cells′ ≡ k .cells) × (out′ ≡ out)
+        go (not-served a b c d e) = (c, d)
+        go (served l s) = absurd (omega (arith, q, s .number, late t cs bs how (omega (arith, p, s .number))))
+
+    late-refusal : disabled ≤ n → (cells′ ≡ k .cells) × Refusal k n out out′
+    unfolding onWrite
+    late-refusal p = go handled
+      where
+        replied : {a : Answer} → Answered t cs bs a → n ≡ a .number → out′ ≡ over (k .form (a .reply)) out → Refusal k n out out′
+        replied (coded m u v) e w = code (omega (arith, e)) (w ∙ ap (λ i. over (k .form (refusalCode i ∷ [])) out) (sym e))
+        replied detected e w = absurd (omega (arith, p))
+        replied (described r node x) e w = absurd (omega (arith, p))
+        replied (recorded r place x) e w = absurd (omega (arith, p))
+        replied (measured r place x) e w = absurd (omega (arith, p))
+        replied (written r place x) e w =
+            let no = unsaved (outcomeIn k r place) (omega (arith, p, e)) in not-saved r place x (e ∙ no .0) (no .1) w
+
+        go : Handled → (cells′ ≡ k .cells) × Refusal k n out out′
+        go (not-served a b c d e) = absurd (omega (arith, p))
+        go (served l s) = (
+          unchanged l s (refusal-keeps t cs (k .host) bs (λ z. omega (arith, p, s .number, z))),
+          replied how (s .number) (s .bytes),
+        )
+
+    others-kept : Bytes (k .cells) → (place : ℕ) → ((value : ℕ) → SavesTo k place value → ⊥) → cellAt cells′ place ≡ cellAt (k .cells) place
+    others-kept all place u = go handled
+      where
+        go : Handled → cellAt cells′ place ≡ cellAt (k .cells) place
+        go (not-served a b c d e) = ap (λ l. cellAt l place) c
+        go (served l s) = ap (λ x. cellIn x place) (cells-after all s) ∙ others-stay t cs (k .host) bs place u
+
+    saved-cell : Bytes (k .cells) → isLent (k .tree) (k .cells) ≡ true → Answers → k .host ≡ true → (place value : ℕ) → SavesTo k place value
+        → cellAt cells′ place ≡ stored (cellAt (k .cells) place) value
+    saved-cell all l s on place value w =
+        ap (λ x. cellIn x place) (cells-after all s ∙ ap (λ b. answer t cs b bs .cells) on)
+        ∙ write-holds t cs bs place value (cells-sound-in (k .tree) (k .cells) all l) w
+
+    write-kept : Bytes (k .cells) → Open k → k .string .number ≡ done → k .host ≡ true → (place value : ℕ) → SavesTo k place value
+        → (n ≡ done) × (cellAt cells′ place ≡ stored (cellAt (k .cells) place) value)
+    write-kept all o good on place value w =
+        let s : Answers = answers (serve-good k o good) in (
+          s .number ∙ ap (λ b. answer t cs b bs .number) on ∙ ap (λ a. a .number) (write-accepted t cs bs place value w) ∙ saved-done cs place (w .request),
+          saved-cell all (o .lent) s on place value w,
+        )
+
+    -- An answer of 0 to a write: host functions are on, and the answer is the write's.
+    host-on : Answers → n ≡ done → k .host ≡ true
+    host-on s d = go (k .host) refl
+      where
+        go : (b : Bool) → k .host ≡ b → k .host ≡ true
+        go true e = e
+        go false e = absurd (omega (arith, s .number ∙ ap (λ b. answer t cs b bs .number) e ∙ ap (λ a. a .number) (host-off t cs bs)))
+
+    write-given : Answers → n ≡ done → (r : Request) (place : ℕ) → WritesTo k r place → answerTo k ≡ onWrite cs place r (outcomeIn k r place)
+    write-given s d r place w = ap (λ b. answer t cs b bs) (host-on s d) ∙ write-answered t cs bs r place w
+
+    save-given : Answers → n ≡ done → (r : Request) (place save : ℕ) → WritesTo k r place → take size out′ ≡ k .form (acceptedReply r save)
+        → saveByte (outcomeIn k r place) ≡ save
+    unfolding onWrite
+    save-given s d r place save w e =
+        save-byte (outcomeIn k r place) r save
+        (ap (λ a. a .reply) (sym (write-given s d r place w))
+        ∙ transport .injective (answerTo k .reply) (acceptedReply r save) (sym (sent s) ∙ e))
+
+    saved-kept : Bytes (k .cells) → n ≡ done → (r : Request) (place : ℕ) → WritesTo k r place → take size out′ ≡ k .form (acceptedReply r saveDone)
+        → (cellAt cells′ place ≡ stored (cellAt (k .cells) place) (r .value)) × (action ≡ 255)
+    unfolding onWrite actionOf
+    saved-kept all d r place w e = go handled
+      where
+        go : Handled → (cellAt cells′ place ≡ stored (cellAt (k .cells) place) (r .value)) × (action ≡ 255)
+        go (not-served a b c x y) = absurd (omega (arith, d))
+        go (served l s) =
+            let is : outcomeIn k r place ≡ saved = save-saved (outcomeIn k r place) (save-given s d r place saveDone w e) in (
+              saved-cell all l s (host-on s d) place (r .value) (record { request = r; writes = w; saves = is; sent = refl }),
+              s .acts ∙ ap (λ a. actionNumber (a .action)) (write-given s d r place w ∙ ap (onWrite cs place r) is),
+            )
+
+    taken-kept : n ≡ done → (r : Request) (place : ℕ) → WritesTo k r place → take size out′ ≡ k .form (acceptedReply r saveNone)
+        → (cells′ ≡ k .cells) × (action ≡ place)
+    unfolding onWrite actionOf cellsAfter
+    taken-kept d r place w e = go handled
+      where
+        go : Handled → (cells′ ≡ k .cells) × (action ≡ place)
+        go (not-served a b c x y) = absurd (omega (arith, d))
+        go (served l s) =
+            let is : outcomeIn k r place ≡ taken = save-taken (outcomeIn k r place) (save-given s d r place saveNone w e) in
+            let a : answerTo k ≡ onWrite cs place r taken = write-given s d r place w ∙ ap (onWrite cs place r) is in (
+              unchanged l s (ap (λ x. x .cells) a),
+              s .acts ∙ ap (λ x. actionNumber (x .action)) a,
+            )
+
+    abbrev Silent : Type 0
+    Silent = (n ≡ done → ⊥) × ((out′ ≡ out) ⊎ ((out′ ≡ over (k .form (DISABLED ∷ [])) out) ⊎ (out′ ≡ over (k .form (NAK ∷ [])) out)))
+
+    open-probe-silent : AsksOpenProbe k → Silent
+    open-probe-silent a = go handled
+      where
+        host-case : (b : Bool) → k .host ≡ b → Answers → Silent
+        host-case true e s =
+            let is : answerTo k ≡ plain cs noReading (NAK ∷ []) = ap (λ b. answer t cs b bs) e ∙ asked-58 k a in
+            (λ z. omega (arith, z, s .number ∙ ap (λ x. x .number) is), inr (inr (s .bytes ∙ ap (λ x. over (k .form (x .reply)) out) is)))
+        host-case false e s =
+            let is : answerTo k ≡ plain cs disabled (DISABLED ∷ []) = ap (λ b. answer t cs b bs) e ∙ host-off t cs bs in
+            (λ z. omega (arith, z, s .number ∙ ap (λ x. x .number) is), inr (inl (s .bytes ∙ ap (λ x. over (k .form (x .reply)) out) is)))
+
+        go : Handled → Silent
+        go (not-served p q c d e) = (λ z. omega (arith, z), inl d)
+        go (served l s) = host-case (k .host) refl s
+
+    open-probe-58 : AsksOpenProbe k → Open k → k .string .number ≡ done → k .host ≡ true
+        → (n ≡ noReading) × (out′ ≡ over (k .form (NAK ∷ [])) out)
+    open-probe-58 a o good on =
+        let s : Answers = answers (serve-good k o good) in
+        let is : answerTo k ≡ plain cs noReading (NAK ∷ []) = ap (λ b. answer t cs b bs) on ∙ asked-58 k a in
+        (s .number ∙ ap (λ x. x .number) is, s .bytes ∙ ap (λ x. over (k .form (x .reply)) out) is)
+
+    no-busy : (xs : List ℕ) → take size out′ ≡ k .form (BUSY ∷ xs) → ⊥
+    no-busy xs e = go handled
+      where
+        go : Handled → ⊥
+        go (not-served a b c d x) = transport .nonempty BUSY xs (sym e ∙ x)
+        go (served l s) =
+            laws.never-busy t cs (k .host) bs
+            (ap (λ r. getD r 0 0) (transport .injective (answerTo k .reply) (BUSY ∷ xs) (sym (sent s) ∙ e)))
+
+    kept : Kept k out n size action cells′ out′
+    kept =
+        record {
+          rows-1-to-8 = early-refusal;
+          rows-9-to-13 = late-refusal;
+          others = others-kept;
+          writes = write-kept;
+          save-01 = saved-kept;
+          save-02 = taken-kept;
+          open-probes = open-probe-silent;
+          open-probes-58 = open-probe-58;
+          never-busy = no-busy;
+        }
+
+-- By each transport: what `serve_data`, `serve_serial` and `serve_udp` promise keeps demands 1 and 2.
+module _ (room : ℕ) (s : List ℕ) (host : Bool) (tree cells : List ℕ) where
+  data-transport : Transport (dataCall room s host tree cells)
+  data-transport = record { early = early-sized s; injective = λ x y e. e; nonempty = λ b bs e. absurd (omega (arith, ap length e)) }
+
+  serial-transport : (address : ℕ) → Transport (serialCall address room s host tree cells)
+  unfolding frame wrap
+  serial-transport address =
+      record {
+        early = early-frame address s;
+        injective = λ x y e. frame-injective address address x y e .1;
+        nonempty = λ b bs e. absurd (omega (arith, ap length e));
+      }
+
+  udp-transport : Transport (udpCall room s host tree cells)
+  unfolding datagram
+  udp-transport =
+      record { early = early-datagram s; injective = datagram-injective; nonempty = λ b bs e. absurd (omega (arith, ap length e)) }
+
+  module _ {out cells′ out′ : List ℕ} {n size action : ℕ} where
+    pub data-kept : Serves (serveData room s host tree cells) out n size action cells′ out′
+        → Kept (dataCall room s host tree cells) out n size action cells′ out′
+    data-kept h = kept (dataCall room s host tree cells) data-transport h
+
+    pub serial-kept : (address : ℕ) → Serves (serveSerial address room s host tree cells) out n size action cells′ out′
+        → Kept (serialCall address room s host tree cells) out n size action cells′ out′
+    serial-kept address h = kept (serialCall address room s host tree cells) (serial-transport address) h
+
+    pub udp-kept : Serves (serveUdp room s host tree cells) out n size action cells′ out′
+        → Kept (udpCall room s host tree cells) out n size action cells′ out′
+    udp-kept h = kept (udpCall room s host tree cells) udp-transport h
