@@ -5,7 +5,7 @@ use native.Mathlib.Omega.{arith}
 use mathlib.Core.Path.{_≡_, refl, sym, ap, ap₂, subst, _∙_}
 use mathlib.Core.Bool.{Bool, true, false, cond}
 use mathlib.Core.List.{List, [], _∷_, _++_}
-use mathlib.Core.Logic.{_⊎_, inl, inr}
+use mathlib.Core.Logic.{inl, inr}
 use borrow.Author.Tests.{eqb-false, ltb-true, lt-ltb}
 use lib.ListN.{length, getD, take, drop, set}
 use lib.Seq.{take-at, drop-at}
@@ -21,7 +21,7 @@ use Rattle.protocol.proofs.TestLaws.{and-left, and-right, and-both}
 use Rattle.protocol.proofs.BufferLaws.{over-nil}
 use Rattle.protocol.proofs.FrameLaws.{frame-injective, datagram-injective}
 use Rattle.protocol.proofs.AnswerLaws as laws
-use Rattle.protocol.proofs.AnswerLaws.{readRequest-fits, Answered, coded, detected, described, recorded, measured, written, open-probe, Saves, Changes, none-changed, one-written, changes, write-answered, write-accepted, write-holds, saved-done, others-stay, refusal-keeps}
+use Rattle.protocol.proofs.AnswerLaws.{readRequest-fits, Answered, answered, coded, detected, described, recorded, measured, written, open-probe, Saves, Changes, none-changed, one-written, changes, write-answered, write-accepted, write-holds, saved-done, others-stay, refusal-keeps}
 use Rattle.protocol.proofs.RuleLaws.{host-off}
 use Rattle.tree.specs.Seen.{seen, isTree}
 use Rattle.tree.specs.Cells.{cellsForm, cellsIn, hasCells}
@@ -137,186 +137,150 @@ module _ (k : Call) (transport : Transport k) {out cells′ out′ : List ℕ} {
     abbrev bs : List ℕ
     bs = k .string .payload
 
-    abbrev Answers : Type 0
-    Answers = Serves (inForm (k .form) (answerTo k)) out n size action cells′ out′
-
     -- A call is refused with one of rows 1 to 8, or gives the answer.
-    data Handled : Type 0 where
-      not-served : 0 < n → n < disabled → cells′ ≡ k .cells → out′ ≡ out → take size out′ ≡ [] → Handled
-      served : isLent (k .tree) (k .cells) ≡ true → Answers → Handled
+    record NotServed : Type 0 where
+      refused : 0 < n
+      early : n < disabled
+      same-cells : cells′ ≡ k .cells
+      same-output : out′ ≡ out
+      nothing : take size out′ ≡ []
 
-    refuses : (m : ℕ) → 0 < m → m < disabled → serving k ≡ turnedAway (k .cells) m → Handled
+    record Served : Type 0 where
+      lent : isLent (k .tree) (k .cells) ≡ true
+      gives : Serves (inForm (k .form) (answerTo k)) out n size action cells′ out′
+
+    refuses : (m : ℕ) → 0 < m → m < disabled → serving k ≡ turnedAway (k .cells) m → NotServed
     refuses m p q e =
         let s : Serves (turnedAway (k .cells) m) out n size action cells′ out′ = subst (λ w. Serves w out n size action cells′ out′) e h in
-        not-served (omega (arith, s .number)) (omega (arith, s .number)) (s .cells) (s .bytes ∙ over-nil out) (written-front [] out (s .len) (s .bytes))
+        record {
+          refused = omega (arith, s .number);
+          early = omega (arith, s .number);
+          same-cells = s .cells;
+          same-output = s .bytes ∙ over-nil out;
+          nothing = written-front [] out (s .len) (s .bytes);
+        }
 
-    answers : serving k ≡ inForm (k .form) (answerTo k) → Answers
-    answers e = subst (λ w. Serves w out n size action cells′ out′) e h
+    serves : isLent (k .tree) (k .cells) ≡ true → serving k ≡ inForm (k .form) (answerTo k) → Served
+    serves l e = record { lent = l; gives = subst (λ w. Serves w out n size action cells′ out′) e h }
 
-    handled : Handled
-    handled = go (isLent (k .tree) (k .cells)) (ltb (k .room) (k .least)) (eqb (k .string .number) done) refl refl refl
+    handled : {A : Type 0} → (NotServed → A) → (Served → A) → A
+    handled {A} f g = go (isLent (k .tree) (k .cells)) (ltb (k .room) (k .least)) (eqb (k .string .number) done) refl refl refl
       where
-        go : (a b c : Bool) → isLent (k .tree) (k .cells) ≡ a → ltb (k .room) (k .least) ≡ b → eqb (k .string .number) done ≡ c → Handled
-        go true true c p q r = refuses noRoom (omega arith) (omega arith) (serve-by k true true c p q r)
-        go true false true p q r = served p (answers (serve-by k true false true p q r))
+        go : (a b c : Bool) → isLent (k .tree) (k .cells) ≡ a → ltb (k .room) (k .least) ≡ b → eqb (k .string .number) done ≡ c → A
+        go true true c p q r = f (refuses noRoom (omega arith) (omega arith) (serve-by k true true c p q r))
+        go true false true p q r = g (serves p (serve-by k true false true p q r))
         go true false false p q r =
-            refuses (k .string .number) (omega (arith, eqb-false (k .string .number) done r)) (transport .early .early) (serve-by k true false false p q r)
-        go false b c p q r = refuses unsound (omega arith) (omega arith) (serve-by k false b c p q r)
+            f (refuses (k .string .number) (omega (arith, eqb-false (k .string .number) done r)) (transport .early .early) (serve-by k true false false p q r))
+        go false b c p q r = f (refuses unsound (omega arith) (omega arith) (serve-by k false b c p q r))
 
-    how : Answered t cs bs (answerTo k)
-    how = laws.answered t cs bs (k .host)
+    opened : Open k → k .string .number ≡ done → Served
+    opened o good = serves (o .lent) (serve-good k o good)
 
-    sent : Answers → take size out′ ≡ k .form (answerTo k .reply)
-    sent s = written-front (k .form (answerTo k .reply)) out (s .len) (s .bytes)
+    -- Host functions are on or off.
+    by-host : {A : Type 0} → (k .host ≡ true → A) → (k .host ≡ false → A) → A
+    by-host {A} f g = go (k .host) refl
+      where
+        go : (b : Bool) → k .host ≡ b → A
+        go true e = f e
+        go false e = g e
 
-    unchanged : isLent (k .tree) (k .cells) ≡ true → Answers → answerTo k .cells ≡ cs → cells′ ≡ k .cells
-    unchanged l s e = s .cells ∙ ap cellsForm e ∙ sym (lent-form (k .tree) (k .cells) l)
+    -- What a served call gives: its cells, as they are read, and what was written.
+    unchanged : Served → answerTo k .cells ≡ cs → cells′ ≡ k .cells
+    unchanged s e = s .gives .cells ∙ ap cellsForm e ∙ sym (lent-form (k .tree) (k .cells) (s .lent))
 
-    -- The cells afterwards, as they are read.
-    cells-after : Bytes (k .cells) → Answers → cellsIn cells′ ≡ answerTo k .cells
+    cells-after : Bytes (k .cells) → Served → cellsIn cells′ ≡ answerTo k .cells
     cells-after all s =
-        ap cellsIn (s .cells) ∙ cells-in-form (answerTo k .cells) (in-width t cs (k .host) bs (cells-fit (k .cells) all))
+        ap cellsIn (s .gives .cells) ∙ cells-in-form (answerTo k .cells) (in-width t cs (k .host) bs (cells-fit (k .cells) all))
 
-    early-refusal : 0 < n → n < disabled → (cells′ ≡ k .cells) × (out′ ≡ out)
-    early-refusal p q = go handled
-      where
-        go : Handled → (cells′ ≡ k .cells) × (out′ ≡ out)
-        go (not-served a b c d e) = (c, d)
-        go (served l s) = absurd (omega (arith, q, s .number, late t cs bs how (omega (arith, p, s .number))))
+    replied : Served → (reply : List ℕ) → take size out′ ≡ k .form reply → answerTo k .reply ≡ reply
+    replied s reply e =
+        transport .injective (answerTo k .reply) reply
+        (sym (written-front (k .form (answerTo k .reply)) out (s .gives .len) (s .gives .bytes)) ∙ e)
 
-    late-refusal : disabled ≤ n → (cells′ ≡ k .cells) × Refusal k n out out′
+    -- A code alone.
+    code-given : Served → (b : Bool) (m c : ℕ) → k .host ≡ b → answer t cs b bs ≡ plain cs m (c ∷ [])
+        → (n ≡ m) × (out′ ≡ over (k .form (c ∷ [])) out)
+    code-given s b m c on e =
+        let is : answerTo k ≡ plain cs m (c ∷ []) = ap (λ x. answer t cs x bs) on ∙ e in
+        (s .gives .number ∙ ap (λ a. a .number) is, s .gives .bytes ∙ ap (λ a. over (k .form (a .reply)) out) is)
+
+    -- A refusal of rows 9 to 13.
+    refusal : disabled ≤ n → {a : Answer} → Answered t cs bs a → n ≡ a .number → out′ ≡ over (k .form (a .reply)) out → Refusal k n out out′
     unfolding onWrite
-    late-refusal p = go handled
-      where
-        replied : {a : Answer} → Answered t cs bs a → n ≡ a .number → out′ ≡ over (k .form (a .reply)) out → Refusal k n out out′
-        replied (coded m u v) e w = code (omega (arith, e)) (w ∙ ap (λ i. over (k .form (refusalCode i ∷ [])) out) (sym e))
-        replied detected e w = absurd (omega (arith, p))
-        replied (described r node x) e w = absurd (omega (arith, p))
-        replied (recorded r place x) e w = absurd (omega (arith, p))
-        replied (measured r place x) e w = absurd (omega (arith, p))
-        replied (written r place x) e w =
-            let no = unsaved (outcomeIn k r place) (omega (arith, p, e)) in not-saved r place x (e ∙ no .0) (no .1) w
+    refusal p (coded m u v) e w = code (omega (arith, e)) (w ∙ ap (λ i. over (k .form (refusalCode i ∷ [])) out) (sym e))
+    refusal p detected e w = absurd (omega (arith, p))
+    refusal p (described r node x) e w = absurd (omega (arith, p))
+    refusal p (recorded r place x) e w = absurd (omega (arith, p))
+    refusal p (measured r place x) e w = absurd (omega (arith, p))
+    refusal p (written r place x) e w =
+        let no = unsaved (outcomeIn k r place) (omega (arith, p, e)) in not-saved r place x (e ∙ no .0) (no .1) w
 
-        go : Handled → (cells′ ≡ k .cells) × Refusal k n out out′
-        go (not-served a b c d e) = absurd (omega (arith, p))
-        go (served l s) = (
-          unchanged l s (refusal-keeps t cs (k .host) bs (λ z. omega (arith, p, s .number, z))),
-          replied how (s .number) (s .bytes),
-        )
-
-    others-kept : Bytes (k .cells) → (place : ℕ) → ((value : ℕ) → SavesTo k place value → ⊥) → cellAt cells′ place ≡ cellAt (k .cells) place
-    others-kept all place u = go handled
-      where
-        go : Handled → cellAt cells′ place ≡ cellAt (k .cells) place
-        go (not-served a b c d e) = ap (λ l. cellAt l place) c
-        go (served l s) = ap (λ x. cellIn x place) (cells-after all s) ∙ others-stay t cs (k .host) bs place u
-
-    saved-cell : Bytes (k .cells) → isLent (k .tree) (k .cells) ≡ true → Answers → k .host ≡ true → (place value : ℕ) → SavesTo k place value
+    -- An accepted write, and any write that is answered with 0: host functions are on, and the answer is the write's.
+    saved-cell : Bytes (k .cells) → Served → k .host ≡ true → (place value : ℕ) → SavesTo k place value
         → cellAt cells′ place ≡ stored (cellAt (k .cells) place) value
-    saved-cell all l s on place value w =
+    saved-cell all s on place value w =
         ap (λ x. cellIn x place) (cells-after all s ∙ ap (λ b. answer t cs b bs .cells) on)
-        ∙ write-holds t cs bs place value (cells-sound-in (k .tree) (k .cells) all l) w
+        ∙ write-holds t cs bs place value (cells-sound-in (k .tree) (k .cells) all (s .lent)) w
 
-    write-kept : Bytes (k .cells) → Open k → k .string .number ≡ done → k .host ≡ true → (place value : ℕ) → SavesTo k place value
-        → (n ≡ done) × (cellAt cells′ place ≡ stored (cellAt (k .cells) place) value)
-    write-kept all o good on place value w =
-        let s : Answers = answers (serve-good k o good) in (
-          s .number ∙ ap (λ b. answer t cs b bs .number) on ∙ ap (λ a. a .number) (write-accepted t cs bs place value w) ∙ saved-done cs place (w .request),
-          saved-cell all (o .lent) s on place value w,
-        )
+    host-on : Served → n ≡ done → k .host ≡ true
+    host-on s d = by-host (λ e. e) (λ e. absurd (omega (arith, d, code-given s false disabled DISABLED e (host-off t cs bs) .0)))
 
-    -- An answer of 0 to a write: host functions are on, and the answer is the write's.
-    host-on : Answers → n ≡ done → k .host ≡ true
-    host-on s d = go (k .host) refl
-      where
-        go : (b : Bool) → k .host ≡ b → k .host ≡ true
-        go true e = e
-        go false e = absurd (omega (arith, s .number ∙ ap (λ b. answer t cs b bs .number) e ∙ ap (λ a. a .number) (host-off t cs bs)))
-
-    write-given : Answers → n ≡ done → (r : Request) (place : ℕ) → WritesTo k r place → answerTo k ≡ onWrite cs place r (outcomeIn k r place)
+    write-given : Served → n ≡ done → (r : Request) (place : ℕ) → WritesTo k r place → answerTo k ≡ onWrite cs place r (outcomeIn k r place)
     write-given s d r place w = ap (λ b. answer t cs b bs) (host-on s d) ∙ write-answered t cs bs r place w
 
-    save-given : Answers → n ≡ done → (r : Request) (place save : ℕ) → WritesTo k r place → take size out′ ≡ k .form (acceptedReply r save)
+    save-given : Served → n ≡ done → (r : Request) (place save : ℕ) → WritesTo k r place → take size out′ ≡ k .form (acceptedReply r save)
         → saveByte (outcomeIn k r place) ≡ save
     unfolding onWrite
     save-given s d r place save w e =
         save-byte (outcomeIn k r place) r save
-        (ap (λ a. a .reply) (sym (write-given s d r place w))
-        ∙ transport .injective (answerTo k .reply) (acceptedReply r save) (sym (sent s) ∙ e))
-
-    saved-kept : Bytes (k .cells) → n ≡ done → (r : Request) (place : ℕ) → WritesTo k r place → take size out′ ≡ k .form (acceptedReply r saveDone)
-        → (cellAt cells′ place ≡ stored (cellAt (k .cells) place) (r .value)) × (action ≡ 255)
-    unfolding onWrite actionOf
-    saved-kept all d r place w e = go handled
-      where
-        go : Handled → (cellAt cells′ place ≡ stored (cellAt (k .cells) place) (r .value)) × (action ≡ 255)
-        go (not-served a b c x y) = absurd (omega (arith, d))
-        go (served l s) =
-            let is : outcomeIn k r place ≡ saved = save-saved (outcomeIn k r place) (save-given s d r place saveDone w e) in (
-              saved-cell all l s (host-on s d) place (r .value) (record { request = r; writes = w; saves = is; sent = refl }),
-              s .acts ∙ ap (λ a. actionNumber (a .action)) (write-given s d r place w ∙ ap (onWrite cs place r) is),
-            )
-
-    taken-kept : n ≡ done → (r : Request) (place : ℕ) → WritesTo k r place → take size out′ ≡ k .form (acceptedReply r saveNone)
-        → (cells′ ≡ k .cells) × (action ≡ place)
-    unfolding onWrite actionOf cellsAfter
-    taken-kept d r place w e = go handled
-      where
-        go : Handled → (cells′ ≡ k .cells) × (action ≡ place)
-        go (not-served a b c x y) = absurd (omega (arith, d))
-        go (served l s) =
-            let is : outcomeIn k r place ≡ taken = save-taken (outcomeIn k r place) (save-given s d r place saveNone w e) in
-            let a : answerTo k ≡ onWrite cs place r taken = write-given s d r place w ∙ ap (onWrite cs place r) is in (
-              unchanged l s (ap (λ x. x .cells) a),
-              s .acts ∙ ap (λ x. actionNumber (x .action)) a,
-            )
-
-    abbrev Silent : Type 0
-    Silent = (n ≡ done → ⊥) × ((out′ ≡ out) ⊎ ((out′ ≡ over (k .form (DISABLED ∷ [])) out) ⊎ (out′ ≡ over (k .form (NAK ∷ [])) out)))
-
-    open-probe-silent : AsksOpenProbe k → Silent
-    open-probe-silent a = go handled
-      where
-        host-case : (b : Bool) → k .host ≡ b → Answers → Silent
-        host-case true e s =
-            let is : answerTo k ≡ plain cs noReading (NAK ∷ []) = ap (λ b. answer t cs b bs) e ∙ asked-58 k a in
-            (λ z. omega (arith, z, s .number ∙ ap (λ x. x .number) is), inr (inr (s .bytes ∙ ap (λ x. over (k .form (x .reply)) out) is)))
-        host-case false e s =
-            let is : answerTo k ≡ plain cs disabled (DISABLED ∷ []) = ap (λ b. answer t cs b bs) e ∙ host-off t cs bs in
-            (λ z. omega (arith, z, s .number ∙ ap (λ x. x .number) is), inr (inl (s .bytes ∙ ap (λ x. over (k .form (x .reply)) out) is)))
-
-        go : Handled → Silent
-        go (not-served p q c d e) = (λ z. omega (arith, z), inl d)
-        go (served l s) = host-case (k .host) refl s
-
-    open-probe-58 : AsksOpenProbe k → Open k → k .string .number ≡ done → k .host ≡ true
-        → (n ≡ noReading) × (out′ ≡ over (k .form (NAK ∷ [])) out)
-    open-probe-58 a o good on =
-        let s : Answers = answers (serve-good k o good) in
-        let is : answerTo k ≡ plain cs noReading (NAK ∷ []) = ap (λ b. answer t cs b bs) on ∙ asked-58 k a in
-        (s .number ∙ ap (λ x. x .number) is, s .bytes ∙ ap (λ x. over (k .form (x .reply)) out) is)
-
-    no-busy : (xs : List ℕ) → take size out′ ≡ k .form (BUSY ∷ xs) → ⊥
-    no-busy xs e = go handled
-      where
-        go : Handled → ⊥
-        go (not-served a b c d x) = transport .nonempty BUSY xs (sym e ∙ x)
-        go (served l s) =
-            laws.never-busy t cs (k .host) bs
-            (ap (λ r. getD r 0 0) (transport .injective (answerTo k .reply) (BUSY ∷ xs) (sym (sent s) ∙ e)))
+        (ap (λ a. a .reply) (sym (write-given s d r place w)) ∙ replied s (acceptedReply r save) e)
 
     kept : Kept k out n size action cells′ out′
+    unfolding onWrite actionOf cellsAfter
     kept =
         record {
-          rows-1-to-8 = early-refusal;
-          rows-9-to-13 = late-refusal;
-          others = others-kept;
-          writes = write-kept;
-          save-01 = saved-kept;
-          save-02 = taken-kept;
-          open-probes = open-probe-silent;
-          open-probes-58 = open-probe-58;
-          never-busy = no-busy;
+          rows-1-to-8 = λ p q. handled
+              (λ r. (r .same-cells, r .same-output))
+              (λ s. absurd (omega (arith, q, s .gives .number, late t cs bs (answered t cs bs (k .host)) (omega (arith, p, s .gives .number)))));
+          rows-9-to-13 = λ p. handled
+              (λ r. absurd (omega arith))
+              (λ s. (
+                unchanged s (refusal-keeps t cs (k .host) bs (λ z. omega (arith, p, s .gives .number, z))),
+                refusal p (answered t cs bs (k .host)) (s .gives .number) (s .gives .bytes),
+              ));
+          others = λ all place u. handled
+              (λ r. ap (λ l. cellAt l place) (r .same-cells))
+              (λ s. ap (λ x. cellIn x place) (cells-after all s) ∙ others-stay t cs (k .host) bs place u);
+          writes = λ all o good on place value w.
+              let s : Served = opened o good in (
+                s .gives .number
+                    ∙ ap (λ b. answer t cs b bs .number) on
+                    ∙ ap (λ a. a .number) (write-accepted t cs bs place value w)
+                    ∙ saved-done cs place (w .request),
+                saved-cell all s on place value w,
+              );
+          save-01 = λ all d r place w e. handled
+              (λ x. absurd (omega arith))
+              (λ s.
+              let is : outcomeIn k r place ≡ saved = save-saved (outcomeIn k r place) (save-given s d r place saveDone w e) in (
+                saved-cell all s (host-on s d) place (r .value) (record { request = r; writes = w; saves = is; sent = refl }),
+                s .gives .acts ∙ ap (λ a. actionNumber (a .action)) (write-given s d r place w ∙ ap (onWrite cs place r) is),
+              ));
+          save-02 = λ d r place w e. handled
+              (λ x. absurd (omega arith))
+              (λ s.
+              let is : outcomeIn k r place ≡ taken = save-taken (outcomeIn k r place) (save-given s d r place saveNone w e) in
+              let a : answerTo k ≡ onWrite cs place r taken = write-given s d r place w ∙ ap (onWrite cs place r) is in
+              (unchanged s (ap (λ x. x .cells) a), s .gives .acts ∙ ap (λ x. actionNumber (x .action)) a));
+          open-probes = λ a. handled
+              (λ r. (λ z. omega (arith, z), inl (r .same-output)))
+              (λ s. by-host
+              (λ on. let g = code-given s true noReading NAK on (asked-58 k a) in (λ z. omega (arith, z, g .0), inr (inr (g .1))))
+              (λ off. let g = code-given s false disabled DISABLED off (host-off t cs bs) in (λ z. omega (arith, z, g .0), inr (inl (g .1)))));
+          open-probes-58 = λ a o good on. code-given (opened o good) true noReading NAK on (asked-58 k a);
+          never-busy = λ xs e. handled
+              (λ r. transport .nonempty BUSY xs (sym e ∙ r .nothing))
+              (λ s. laws.never-busy t cs (k .host) bs (ap (λ l. getD l 0 0) (replied s (BUSY ∷ xs) e)));
         }
 
 -- By each transport: what `serve_data`, `serve_serial` and `serve_udp` promise keeps demands 1 and 2.
