@@ -5,7 +5,7 @@ use native.Mathlib.Omega.{arith}
 use mathlib.Core.Path.{_≡_, refl, sym, ap, ap₂, subst, _∙_}
 use mathlib.Core.Bool.{Bool, true, false, cond}
 use mathlib.Core.List.{List, [], _∷_, _++_}
-use mathlib.Core.Logic.{inl, inr}
+use mathlib.Core.Logic.{_⊎_, inl, inr}
 use borrow.Author.Tests.{eqb-false, ltb-true, lt-ltb}
 use lib.ListN.{length, getD, take, drop, set}
 use lib.Seq.{take-at, drop-at}
@@ -101,6 +101,14 @@ save-byte o r save e =
     ∙ ap (λ l. getD (drop (length front) l) 5 0) e
     ∙ ap (λ l. getD l 5 0) (drop-at front (0 ∷ (word (r .value) ++ save ∷ cond (eqb (r .op) opWrite) [] (text []))) (length front) refl)
 
+accepted-reply : (form : List ℕ → List ℕ) (o : Outcome) (r : Request) {sent : List ℕ} → writeNumber o ≡ done → sent ≡ form (writeReply o r)
+    → (sent ≡ form (acceptedReply r saveDone)) ⊎ (sent ≡ form (acceptedReply r saveNone))
+unfolding writeNumber writeReply saveByte reason acceptedReply
+accepted-reply form saved r e is = inl is
+accepted-reply form taken r e is = inr is
+accepted-reply form readOnly r e is = absurd (omega arith)
+accepted-reply form outOfRange r e is = absurd (omega arith)
+
 save-saved : (o : Outcome) → saveByte o ≡ saveDone → o ≡ saved
 unfolding saveByte
 save-saved saved e = refl
@@ -192,10 +200,12 @@ module _ (k : Call) (transport : Transport k) {out cells′ out′ : List ℕ} {
     cells-after all s =
         ap cellsIn (s .gives .cells) ∙ cells-in-form (answerTo k .cells) (in-width t cs (k .host) bs (cells-fit (k .cells) all))
 
+    sent : Served → take size out′ ≡ k .form (answerTo k .reply)
+    sent s = written-front (k .form (answerTo k .reply)) out (s .gives .len) (s .gives .bytes)
+
     replied : Served → (reply : List ℕ) → take size out′ ≡ k .form reply → answerTo k .reply ≡ reply
     replied s reply e =
-        transport .injective (answerTo k .reply) reply
-        (sym (written-front (k .form (answerTo k .reply)) out (s .gives .len) (s .gives .bytes)) ∙ e)
+        transport .injective (answerTo k .reply) reply (sym (sent s) ∙ e)
 
     -- A code alone.
     code-given : Served → (b : Bool) (m c : ℕ) → k .host ≡ b → answer t cs b bs ≡ plain cs m (c ∷ [])
@@ -259,6 +269,12 @@ module _ (k : Call) (transport : Transport k) {out cells′ out′ : List ℕ} {
                     ∙ saved-done cs place (w .request),
                 saved-cell all s on place value w,
               );
+          save-bytes = λ d r place w. handled
+              (λ x. absurd (omega arith))
+              (λ s.
+              let is : answerTo k ≡ onWrite cs place r (outcomeIn k r place) = write-given s d r place w in
+              accepted-reply (k .form) (outcomeIn k r place) r (sym (ap (λ a. a .number) is) ∙ sym (s .gives .number) ∙ d)
+              (sent s ∙ ap (λ a. k .form (a .reply)) is));
           save-01 = λ all d r place w e. handled
               (λ x. absurd (omega arith))
               (λ s.

@@ -68,6 +68,9 @@ pub record Kept (k : Call) (out : List ℕ) (n size action : ℕ) (cells′ out�
   -- Demand 2: an accepted write is done, and the setting's cell holds the number sent, its mark as it was.
   pub writes : Bytes (k .cells) → Open k → k .string .number ≡ done → k .host ≡ true → (place value : ℕ) → SavesTo k place value
       → (n ≡ done) × (cellAt cells′ place ≡ stored (cellAt (k .cells) place) value)
+  -- 0 to a write is told with save byte 01 or 02.
+  pub save-bytes : n ≡ done → (r : Request) (place : ℕ) → WritesTo k r place
+      → (take size out′ ≡ k .form (acceptedReply r saveDone)) ⊎ (take size out′ ≡ k .form (acceptedReply r saveNone))
   -- Demand 2: 0 and save byte 01 mean that the setting's cell holds the number sent; there is no action.
   pub save-01 : Bytes (k .cells) → n ≡ done → (r : Request) (place : ℕ) → WritesTo k r place
       → take size out′ ≡ k .form (acceptedReply r saveDone)
