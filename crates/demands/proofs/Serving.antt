@@ -295,8 +295,8 @@ module _ (k : Call) (transport : Transport k) {out cells′ out′ : List ℕ} {
               (λ off. let g = code-given s false disabled DISABLED off (host-off t cs bs) in (λ z. omega (arith, z, g .0), inr (inl (g .1)))));
           open-probes-58 = λ a o good on. code-given (opened o good) true noReading NAK on (asked-58 k a);
           never-busy = λ xs e. handled
-              (λ r. transport .nonempty BUSY xs (sym e ∙ r .nothing))
-              (λ s. laws.never-busy t cs (k .host) bs (ap (λ l. getD l 0 0) (replied s (BUSY ∷ xs) e)));
+              (λ r. transport .nonempty _ xs (sym e ∙ r .nothing))
+              (λ s. laws.never-busy t cs (k .host) bs (ap (λ l. getD l 0 0) (replied s (_ ∷ xs) e)));
         }
 
 -- By each transport: what `serve_data`, `serve_serial` and `serve_udp` promise keeps demands 1 and 2.
