@@ -15,37 +15,42 @@ use Rattle.protocol.proofs.TestLaws.{and-left, and-right, and-both}
 use Rattle.protocol.proofs.FrameLaws.{readFrame-frame, ifSized-sized, readDatagram-datagram}
 use Rattle.tree.specs.Form.{formOf}
 use Rattle.tree.specs.Seen.{seen, same, isTree, treeOf}
-use Rattle.tree.specs.Cells.{cellsForm, cellsIn}
+use Rattle.tree.specs.Cells.{cellsForm, cellsIn, hasCells}
 use Rattle.tree.specs.Lent.{isLent}
 use Rattle.tree.proofs.FoundLaws.{if-some}
 use Rattle.tree.proofs.SameLaws.{same-eq}
 use Rattle.tree.proofs.FormLaws.{sound-parts, form-seen, form-tree}
-use Rattle.tree.proofs.CellLaws.{inWidth, cells-in-form, has-form, lent-form}
+use Rattle.tree.proofs.CellLaws.{inWidth, cells-in-form, cells-fit, has-form, lent-form}
 use Rattle.answer.specs.Serve.{inForm, Call, serving, dataCall, serialCall, udpCall}
 use Rattle.answer.proofs.ServeLaws.{serve-good}
 use Rattle.demands.specs.Forms.{ServesForms, AreForms}
-use Rattle.demands.proofs.Serving.{cells-sound-in}
+
+-- The words of sound cells are of 32 bits, and the cells that lie beside a lent tree are sound for it.
+pub cells-width : (t : Tree) (cs : List Cell) → cellsSound t cs ≡ true → inWidth cs ≡ true
+unfolding cellsSound
+cells-width t cs h = and-right (eqb (length cs) (length (t .properties))) (inWidth cs) h
+
+pub cells-sound-in : (tree cells : List ℕ) → Bytes cells → isLent tree cells ≡ true → cellsSound (seen tree) (cellsIn cells) ≡ true
+unfolding cellsSound isLent
+cells-sound-in tree cells all l =
+    and-both (and-right (hasCells cells) _ (and-right (isTree tree) _ l)) (cells-fit cells all)
 
 module _ (t : Tree) (cs : List Cell) (ok : sound t ≡ true) (fit : cellsSound t cs ≡ true) where
   counted : eqb (length cs) (length (t .properties)) ≡ true
   unfolding cellsSound
   counted = and-left (eqb (length cs) (length (t .properties))) (inWidth cs) fit
 
-  width : inWidth cs ≡ true
-  unfolding cellsSound
-  width = and-right (eqb (length cs) (length (t .properties))) (inWidth cs) fit
-
   tree-read : seen (formOf t) ≡ t
   tree-read = form-seen t (sound-parts t ok)
 
   cells-read : cellsIn (cellsForm cs) ≡ cs
-  cells-read = cells-in-form cs width
+  cells-read = cells-in-form cs (cells-width t cs fit)
 
   forms-lent : isLent (formOf t) (cellsForm cs) ≡ true
   unfolding isLent treeOf
   forms-lent =
       and-both (if-some (isTree (formOf t)) (form-tree t ok) .0)
-      (and-both (has-form cs width)
+      (and-both (has-form cs (cells-width t cs fit))
       (ap₂ (λ c s. eqb (length c) (length (s .properties))) cells-read tree-read ∙ counted))
 
   -- One call, whatever its transport, that is lent the forms, has room, and received data.

@@ -1,73 +1,36 @@
 -- Demands 1 and 2 over the serving calls, by any transport: theorems about every call that meets its promise.
 -- Assumes nothing.
-use Prim.Native.Nat.{ℕ, zero, suc, _<_, _≤_}
+use Prim.Native.Nat.{ℕ, _<_, _≤_}
 use native.Mathlib.Omega.{arith}
 use mathlib.Core.Path.{_≡_, refl, sym, ap, ap₂, subst, _∙_}
 use mathlib.Core.Bool.{Bool, true, false, cond}
 use mathlib.Core.List.{List, [], _∷_, _++_}
 use mathlib.Core.Logic.{_⊎_, inl, inr}
-use borrow.Author.Tests.{eqb-false, ltb-true, lt-ltb}
-use lib.ListN.{length, getD, take, drop, set}
+use borrow.Author.Tests.{eqb-false}
+use lib.ListN.{length, getD, take, drop}
 use lib.Seq.{take-at, drop-at}
 use lib.Dec.{eqb, ltb}
-use Rattle.protocol.specs.Numbers.{done, unsound, noRoom, disabled, noReading, notSaved, BUSY, DISABLED, NAK, opRead, opWrite, saveFailed, saveDone, saveNone, wordEnd}
-use Rattle.protocol.specs.Bytes.{Bytes, every, word, text}
+use Rattle.protocol.specs.Numbers.{done, unsound, noRoom, disabled, noReading, notSaved, DISABLED, NAK, opWrite, saveFailed, saveDone, saveNone}
+use Rattle.protocol.specs.Bytes.{Bytes, word, text}
 use Rattle.protocol.specs.Frame.{frame, datagram, wrap}
 use Rattle.protocol.specs.Buffer.{over}
-use Rattle.protocol.specs.Request.{Request, pathFits, indexFits, fits}
-use Rattle.protocol.specs.Tree.{Tree, Cell, propertyIn, cellIn, cellsSound}
+use Rattle.protocol.specs.Request.{Request}
+use Rattle.protocol.specs.Tree.{Tree, Cell, propertyIn, cellIn}
 use Rattle.protocol.specs.Answer.{Answer, plain, stored, Outcome, saved, taken, readOnly, outOfRange, outcome, saveByte, reason, writeNumber, actionOf, cellsAfter, echoIndexed, writeReply, refusalCode, onWrite, answer}
-use Rattle.protocol.proofs.TestLaws.{and-left, and-right, and-both}
 use Rattle.protocol.proofs.BufferLaws.{over-nil}
 use Rattle.protocol.proofs.FrameLaws.{frame-injective, datagram-injective}
 use Rattle.protocol.proofs.AnswerLaws as laws
-use Rattle.protocol.proofs.AnswerLaws.{readRequest-fits, Answered, answered, coded, detected, described, recorded, measured, written, open-probe, Saves, Changes, none-changed, one-written, changes, write-answered, write-accepted, write-holds, saved-done, others-stay, refusal-keeps}
+use Rattle.protocol.proofs.AnswerLaws.{Answered, answered, refused, acknowledged, node-described, record-described, word-read, written, open-probe, cells-stay-sound, write-answered, write-accepted, write-holds, saved-done, others-stay, refusal-keeps}
 use Rattle.protocol.proofs.RuleLaws.{host-off}
-use Rattle.tree.specs.Seen.{seen, isTree}
-use Rattle.tree.specs.Cells.{cellsForm, cellsIn, hasCells}
+use Rattle.tree.specs.Cells.{cellsForm, cellsIn}
 use Rattle.tree.specs.Lent.{isLent}
-use Rattle.tree.proofs.CellLaws.{inWidth, cells-in-form, cells-fit, lent-form}
+use Rattle.tree.proofs.CellLaws.{cells-in-form, lent-form}
 use Rattle.answer.specs.Reply.{actionNumber}
 use Rattle.answer.specs.Serve.{turnedAway, inForm, Call, serving, dataCall, serialCall, udpCall, serveData, serveSerial, serveUdp, Serves}
 use Rattle.answer.proofs.ReadLaws.{Early, early-sized, early-frame, early-datagram}
 use Rattle.answer.proofs.ServeLaws.{answerTo, Open, serve-by, serve-good}
+use Rattle.demands.proofs.Forms.{cells-width, cells-sound-in}
 use Rattle.demands.specs.Serving.{treeIn, cellAt, AsksOpenProbe, WritesTo, SavesTo, outcomeIn, acceptedReply, Refusal, code, not-saved, Kept}
-
--- The cells that lie beside a lent tree are sound for it.
-pub cells-sound-in : (tree cells : List ℕ) → Bytes cells → isLent tree cells ≡ true → cellsSound (seen tree) (cellsIn cells) ≡ true
-unfolding cellsSound isLent
-cells-sound-in tree cells all l =
-    and-both (and-right (hasCells cells) _ (and-right (isTree tree) _ l)) (cells-fit cells all)
-
--- Every cell after an answer has a word of 32 bits.
-every-set : {A : Type 0} (f : A → Bool) (xs : List A) (i : ℕ) (y : A) → every f xs ≡ true → f y ≡ true → every f (set xs i y) ≡ true
-unfolding every
-every-set f [] i y h e = refl
-every-set f (x ∷ xs) zero y h e = and-both e (and-right (f x) (every f xs) h)
-every-set f (x ∷ xs) (suc i) y h e = and-both (and-left (f x) (every f xs) h) (every-set f xs i y (and-right (f x) (every f xs) h) e)
-
-value-fits : (r : Request) → fits r ≡ true → opRead < r .op → r .value < wordEnd
-unfolding fits
-value-fits r h w =
-    let both = and-right (pathFits (r .op) (r .path)) _ h in
-    let value = and-right (indexFits (r .op) (r .index)) _ both in
-    ltb-true (r .value) wordEnd (sym (ap (λ t. cond t (ltb (r .value) wordEnd) (eqb (r .value) 0)) (lt-ltb opRead (r .op) w)) ∙ value)
-
-sent-fits : (t : Tree) (bs : List ℕ) (place value : ℕ) → Saves t bs place value → value < wordEnd
-sent-fits t bs place value s =
-    let asks = s .writes .asks in
-    let fit : fits (s .request) ≡ true =
-    ap (λ a. fits (a .request)) (sym asks) ∙ readRequest-fits bs .fit (ap (λ a. a .number) asks) in
-    omega (arith, s .sent, value-fits (s .request) fit (s .writes .writes))
-
-in-width : (t : Tree) (cs : List Cell) (host : Bool) (bs : List ℕ) → inWidth cs ≡ true → inWidth (answer t cs host bs .cells) ≡ true
-in-width t cs host bs h = go (changes t cs host bs)
-  where
-    go : Changes t cs bs (answer t cs host bs .cells) → inWidth (answer t cs host bs .cells) ≡ true
-    go (none-changed e) = ap inWidth e ∙ h
-    go (one-written place value s e) =
-        ap inWidth e
-        ∙ every-set (λ c. ltb (c .word) wordEnd) cs place (stored (cellIn cs place) value) h (lt-ltb value wordEnd (sent-fits t bs place value s))
 
 -- What is assumed of a transport: rows 2 to 7 come before 9, no string is the form of two replies, and no form of a reply is empty.
 record Transport (k : Call) : Type 0 where
@@ -85,11 +48,11 @@ unsaved outOfRange h = (refl, refl)
 
 late : (t : Tree) (cs : List Cell) (bs : List ℕ) {a : Answer} → Answered t cs bs a → 0 < a .number → disabled ≤ a .number
 unfolding onWrite
-late t cs bs (coded n h k) p = h
-late t cs bs detected p = absurd (omega arith)
-late t cs bs (described r node e) p = absurd (omega arith)
-late t cs bs (recorded r place e) p = absurd (omega arith)
-late t cs bs (measured r place e) p = absurd (omega arith)
+late t cs bs (refused n h k) p = h
+late t cs bs acknowledged p = absurd (omega arith)
+late t cs bs (node-described r node e) p = absurd (omega arith)
+late t cs bs (record-described r place e) p = absurd (omega arith)
+late t cs bs (word-read r place e) p = absurd (omega arith)
 late t cs bs (written r place w) p = omega (arith, unsaved (outcome (propertyIn t place) (r .value)) p .0)
 
 -- What the save byte of a reply tells.
@@ -147,7 +110,7 @@ module _ (k : Call) (transport : Transport k) {out cells′ out′ : List ℕ} {
 
     -- A call is refused with one of rows 1 to 8, or gives the answer.
     record NotServed : Type 0 where
-      refused : 0 < n
+      some-row : 0 < n
       early : n < disabled
       same-cells : cells′ ≡ k .cells
       same-output : out′ ≡ out
@@ -161,7 +124,7 @@ module _ (k : Call) (transport : Transport k) {out cells′ out′ : List ℕ} {
     refuses m p q e =
         let s : Serves (turnedAway (k .cells) m) out n size action cells′ out′ = subst (λ w. Serves w out n size action cells′ out′) e h in
         record {
-          refused = omega (arith, s .number);
+          some-row = omega (arith, s .number);
           early = omega (arith, s .number);
           same-cells = s .cells;
           same-output = s .bytes ∙ over-nil out;
@@ -198,7 +161,8 @@ module _ (k : Call) (transport : Transport k) {out cells′ out′ : List ℕ} {
 
     cells-after : Bytes (k .cells) → Served → cellsIn cells′ ≡ answerTo k .cells
     cells-after all s =
-        ap cellsIn (s .gives .cells) ∙ cells-in-form (answerTo k .cells) (in-width t cs (k .host) bs (cells-fit (k .cells) all))
+        ap cellsIn (s .gives .cells) ∙ cells-in-form (answerTo k .cells)
+        (cells-width t (answerTo k .cells) (cells-stay-sound t cs (k .host) bs (cells-sound-in (k .tree) (k .cells) all (s .lent))))
 
     sent : Served → take size out′ ≡ k .form (answerTo k .reply)
     sent s = written-front (k .form (answerTo k .reply)) out (s .gives .len) (s .gives .bytes)
@@ -217,11 +181,11 @@ module _ (k : Call) (transport : Transport k) {out cells′ out′ : List ℕ} {
     -- A refusal of rows 9 to 13.
     refusal : disabled ≤ n → {a : Answer} → Answered t cs bs a → n ≡ a .number → out′ ≡ over (k .form (a .reply)) out → Refusal k n out out′
     unfolding onWrite
-    refusal p (coded m u v) e w = code (omega (arith, e)) (w ∙ ap (λ i. over (k .form (refusalCode i ∷ [])) out) (sym e))
-    refusal p detected e w = absurd (omega (arith, p))
-    refusal p (described r node x) e w = absurd (omega (arith, p))
-    refusal p (recorded r place x) e w = absurd (omega (arith, p))
-    refusal p (measured r place x) e w = absurd (omega (arith, p))
+    refusal p (refused m u v) e w = code (omega (arith, e)) (w ∙ ap (λ i. over (k .form (refusalCode i ∷ [])) out) (sym e))
+    refusal p acknowledged e w = absurd (omega (arith, p))
+    refusal p (node-described r node x) e w = absurd (omega (arith, p))
+    refusal p (record-described r place x) e w = absurd (omega (arith, p))
+    refusal p (word-read r place x) e w = absurd (omega (arith, p))
     refusal p (written r place x) e w =
         let no = unsaved (outcomeIn k r place) (omega (arith, p, e)) in not-saved r place x (e ∙ no .0) (no .1) w
 

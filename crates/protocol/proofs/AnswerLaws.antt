@@ -6,18 +6,18 @@ use mathlib.Core.Path.{_≡_, refl, sym, ap, subst, _∙_}
 use mathlib.Core.Bool.{Bool, true, false, cond, _&&_}
 use mathlib.Core.List.{List, [], _∷_, _++_}
 use mathlib.Core.Option.{Option, none, some, Option·none-ne-some, Option·some-injective}
-use borrow.Author.Tests.{eqb-true, eqb-false, leb-true, ne-eqb}
-use lib.ListN.{length, getD, drop, getElem?, set, length-append}
+use borrow.Author.Tests.{eqb-true, eqb-false, leb-true, lt-ltb, ne-eqb}
+use lib.ListN.{length, getD, drop, getElem?, set, length-append, length-set}
 use lib.Seq.{getD-set-same, getD-set-other}
 use lib.Dec.{eqb, ltb, leb}
-use Rattle.protocol.specs.Numbers.{done, unknownCommand, disabled, badParameter, noReading, PDI, BUSY, ACK, NAK, opDetect, opNode, opRecord, opRead, opWrite, opWriteExtended, maxDepth, maxName, maxTexts, maxNodes, maxProperties}
+use Rattle.protocol.specs.Numbers.{done, unknownCommand, disabled, badParameter, noReading, PDI, BUSY, ACK, NAK, opDetect, opNode, opRecord, opRead, opWrite, opWriteExtended, maxDepth, maxName, maxTexts, maxNodes, maxProperties, wordEnd}
 use Rattle.protocol.specs.Bytes.{every, half, word, text, texts}
 use Rattle.protocol.specs.Frame.{Sized}
 use Rattle.protocol.specs.Request.{Request, Asked, asksIndex, asksValue, fits, askedIf, declined, beforeZero, readIndexed, readValued, readShape, readRequest}
 use Rattle.protocol.specs.Tree.{Node, Property, Tree, Cell, isLive, isText, isName, kindSound, liveSound, widthsSound, placesFrom, numbered, propertiesOf, propertyOf, nodeAt, nodeIn, propertyIn, cellIn, cellsSound, depthsSound, parentsSound, optionsSound, propertySound, nodesSound, propertiesSound, sound, readable}
 use Rattle.protocol.specs.Answer.{Outcome, saved, taken, readOnly, outOfRange, outcome, reason, writeNumber, stored, cellsAfter, echo, echoIndexed, nodeReply, recordReply, readReply, writeReply, Answer, plain, refuse, refusalCode, onRead, onWrite, onProperty, ifProperty, ifNode, perform, ifAsked, answer}
-use Rattle.protocol.proofs.TestLaws.{and-left, and-right, if-both, if-case, every-at, every-weaker}
-use Rattle.protocol.proofs.RequestLaws.{path-most}
+use Rattle.protocol.proofs.TestLaws.{and-left, and-right, and-both, if-both, if-case, every-at, every-set, every-weaker}
+use Rattle.protocol.proofs.RequestLaws.{path-most, value-fits}
 use Rattle.protocol.proofs.RuleLaws.{not-readable}
 
 -- Data that is read: with 0 the request fits the table, and any other number is row 10 or 11.
@@ -207,14 +207,17 @@ pub record Writes (t : Tree) (bs : List ℕ) (r : Request) (place : ℕ) : Type 
   pub writes : opRead < r .op
   pub finds : Finds t r place
 
+read-fits : (bs : List ℕ) (r : Request) → ReadAs bs r → fits r ≡ true
+read-fits bs r asks = ap (λ a. fits (a .request)) (sym asks) ∙ readRequest-fits bs .fit (ap (λ a. a .number) asks)
+
 -- How data is answered: a code of rows 9 to 12, a reply with 0, or what a write to a property comes to. Only the last may
 -- change a cell.
 pub data Answered (t : Tree) (cs : List Cell) (bs : List ℕ) : Answer → Type 0 where
-  coded : (n : ℕ) → disabled ≤ n → n ≤ noReading → Answered t cs bs (refuse cs n)
-  detected : Answered t cs bs (plain cs done (ACK ∷ []))
-  described : (r : Request) (node : ℕ) → ReadAs bs r → Answered t cs bs (plain cs done (nodeReply t node r))
-  recorded : (r : Request) (place : ℕ) → ReadAs bs r → Answered t cs bs (plain cs done (recordReply (propertyIn t place) r))
-  measured : (r : Request) (place : ℕ) → ReadAs bs r → Answered t cs bs (plain cs done (readReply (cellIn cs place) r))
+  refused : (n : ℕ) → disabled ≤ n → n ≤ noReading → Answered t cs bs (refuse cs n)
+  acknowledged : Answered t cs bs (plain cs done (ACK ∷ []))
+  node-described : (r : Request) (node : ℕ) → ReadAs bs r → Answered t cs bs (plain cs done (nodeReply t node r))
+  record-described : (r : Request) (place : ℕ) → ReadAs bs r → Answered t cs bs (plain cs done (recordReply (propertyIn t place) r))
+  word-read : (r : Request) (place : ℕ) → ReadAs bs r → Answered t cs bs (plain cs done (readReply (cellIn cs place) r))
   written : (r : Request) (place : ℕ) → Writes t bs r place
       → Answered t cs bs (onWrite cs place r (outcome (propertyIn t place) (r .value)))
 
@@ -223,12 +226,12 @@ module _ (t : Tree) (cs : List Cell) (bs : List ℕ) where
     property-answered : (place : ℕ) → opNode < r .op → Finds t r place → Answered t cs bs (onProperty t cs r place)
     unfolding onProperty onRead
     property-answered place h f =
-        if-case (Answered t cs bs) (eqb (r .op) opRecord) (λ e. recorded r place asks)
+        if-case (Answered t cs bs) (eqb (r .op) opRecord) (λ e. record-described r place asks)
         (λ e. if-case (Answered t cs bs) (eqb (r .op) opRead)
         (λ q.
         if-both (Answered t cs bs) (readable (propertyIn t place) (cellIn cs place))
-        (measured r place asks)
-        (coded noReading (omega arith) (omega arith)))
+        (word-read r place asks)
+        (refused noReading (omega arith) (omega arith)))
         (λ q.
         let above : opRead < r .op = omega (arith, eqb-false (r .op) opRecord e, eqb-false (r .op) opRead q) in
         written r place (record { asks = asks; writes = above; finds = f })))
@@ -236,14 +239,14 @@ module _ (t : Tree) (cs : List Cell) (bs : List ℕ) where
     ifProperty-answered : (node : ℕ) → nodeAt t (r .path) ≡ some node → opNode < r .op → (o : Option ℕ)
         → propertyOf t node (record { 0 = r .index }) ≡ o → Answered t cs bs (ifProperty t cs r o)
     unfolding ifProperty
-    ifProperty-answered node n h none e = coded badParameter (omega arith) (omega arith)
+    ifProperty-answered node n h none e = refused badParameter (omega arith) (omega arith)
     ifProperty-answered node n h (some place) e = property-answered place h (record { node = node; atNode = n; atProperty = e })
 
     ifNode-answered : opDetect < r .op → (o : Option ℕ) → nodeAt t (r .path) ≡ o → Answered t cs bs (ifNode t cs r o)
     unfolding ifNode
-    ifNode-answered h none e = coded badParameter (omega arith) (omega arith)
+    ifNode-answered h none e = refused badParameter (omega arith) (omega arith)
     ifNode-answered h (some node) e =
-        if-case (Answered t cs bs) (eqb (r .op) opNode) (λ q. described r node asks)
+        if-case (Answered t cs bs) (eqb (r .op) opNode) (λ q. node-described r node asks)
         (λ q.
         let above : opNode < r .op = omega (arith, eqb-false (r .op) opNode q) in
         ifProperty-answered node e above (propertyOf t node (record { 0 = r .index })) refl)
@@ -251,13 +254,13 @@ module _ (t : Tree) (cs : List Cell) (bs : List ℕ) where
     perform-answered : Answered t cs bs (perform t cs r)
     unfolding perform
     perform-answered =
-        if-case (Answered t cs bs) (eqb (r .op) opDetect) (λ e. detected)
+        if-case (Answered t cs bs) (eqb (r .op) opDetect) (λ e. acknowledged)
         (λ e. ifNode-answered (omega (arith, eqb-false (r .op) opDetect e)) (nodeAt t (r .path)) refl)
 
   -- Every answer is one of these.
   pub answered : (host : Bool) → Answered t cs bs (answer t cs host bs)
   unfolding answer ifAsked
-  answered false = coded disabled (omega arith) (omega arith)
+  answered false = refused disabled (omega arith) (omega arith)
   answered true =
       if-case (Answered t cs bs) (eqb (readRequest bs .number) done)
       (λ e.
@@ -265,21 +268,17 @@ module _ (t : Tree) (cs : List Cell) (bs : List ℕ) where
       (ap (λ n. record { number = n; request = readRequest bs .request }) (eqb-true (readRequest bs .number) done e)))
       (λ e.
       let row = readRequest-fits bs .late (eqb-false (readRequest bs .number) done e) in
-      coded (readRequest bs .number) (omega (arith, row .0)) (omega (arith, row .1)))
+      refused (readRequest bs .number) (omega (arith, row .0)) (omega (arith, row .1)))
 
   -- Every reply has 1 to 256 bytes: to any data, with host functions on or off, whatever the cells hold.
-  read-path : (r : Request) → ReadAs bs r → length (r .path) ≤ maxDepth
-  read-path r asks =
-      path-most r (ap (λ a. fits (a .request)) (sym asks) ∙ readRequest-fits bs .fit (ap (λ a. a .number) asks))
-
   sized : Texts t → {a : Answer} → Answered t cs bs a → Sized (a .reply)
   unfolding onWrite
-  sized short (coded n h k) = record { least = omega arith; most = omega arith }
-  sized short detected = record { least = omega arith; most = omega arith }
-  sized short (described r node asks) = node-size r (read-path r asks) t short node
-  sized short (recorded r place asks) = record-size r (read-path r asks) t short place
-  sized short (measured r place asks) = read-size r (read-path r asks) (cellIn cs place)
-  sized short (written r place w) = write-size r (read-path r (w .asks)) (outcome (propertyIn t place) (r .value))
+  sized short (refused n h k) = record { least = omega arith; most = omega arith }
+  sized short acknowledged = record { least = omega arith; most = omega arith }
+  sized short (node-described r node asks) = node-size r (path-most r (read-fits bs r asks)) t short node
+  sized short (record-described r place asks) = record-size r (path-most r (read-fits bs r asks)) t short place
+  sized short (word-read r place asks) = read-size r (path-most r (read-fits bs r asks)) (cellIn cs place)
+  sized short (written r place w) = write-size r (path-most r (read-fits bs r (w .asks))) (outcome (propertyIn t place) (r .value))
 
 pub reply-sized : (t : Tree) → sound t ≡ true → (cs : List Cell) (host : Bool) (bs : List ℕ)
     → Sized (answer t cs host bs .reply)
@@ -301,11 +300,11 @@ unfolding nodeReply recordReply readReply writeReply onWrite
 never-busy t cs host bs = go (answered t cs bs host)
   where
     go : {a : Answer} → Answered t cs bs a → getD (a .reply) 0 0 ≡ BUSY → ⊥
-    go (coded n h k) = code-not-busy n .not-busy
-    go detected = λ e. omega (arith, e)
-    go (described r node asks) = λ e. omega (arith, e)
-    go (recorded r place asks) = λ e. omega (arith, e)
-    go (measured r place asks) = λ e. omega (arith, e)
+    go (refused n h k) = code-not-busy n .not-busy
+    go acknowledged = λ e. omega (arith, e)
+    go (node-described r node asks) = λ e. omega (arith, e)
+    go (record-described r place asks) = λ e. omega (arith, e)
+    go (word-read r place asks) = λ e. omega (arith, e)
     go (written r place w) = λ e. omega (arith, e)
 
 -- A request performed, where it names a property.
@@ -368,12 +367,32 @@ changes t cs host bs = go (answered t cs bs host)
     write r place w outOfRange e = none-changed refl
 
     go : {a : Answer} → Answered t cs bs a → Changes t cs bs (a .cells)
-    go (coded n h k) = none-changed refl
-    go detected = none-changed refl
-    go (described r node asks) = none-changed refl
-    go (recorded r place asks) = none-changed refl
-    go (measured r place asks) = none-changed refl
+    go (refused n h k) = none-changed refl
+    go acknowledged = none-changed refl
+    go (node-described r node asks) = none-changed refl
+    go (record-described r place asks) = none-changed refl
+    go (word-read r place asks) = none-changed refl
     go (written r place w) = write r place w (outcome (propertyIn t place) (r .value)) refl
+
+-- Cells that fit a tree still do.
+sent-fits : (t : Tree) (bs : List ℕ) (place value : ℕ) → Saves t bs place value → value < wordEnd
+sent-fits t bs place value s =
+    omega (arith, s .sent, value-fits (s .request) (read-fits bs (s .request) (s .writes .asks)) (s .writes .writes))
+
+pub cells-stay-sound : (t : Tree) (cs : List Cell) (host : Bool) (bs : List ℕ) → cellsSound t cs ≡ true
+    → cellsSound t (answer t cs host bs .cells) ≡ true
+unfolding cellsSound
+cells-stay-sound t cs host bs h = go (changes t cs host bs)
+  where
+    go : {after : List Cell} → Changes t cs bs after → cellsSound t after ≡ true
+    go (none-changed e) = ap (cellsSound t) e ∙ h
+    go (one-written place value s e) =
+        let c : Cell = stored (cellIn cs place) value in
+        ap (cellsSound t) e
+        ∙ and-both
+        (ap (λ n. eqb n (length (t .properties))) (length-set cs place c) ∙ and-left (eqb (length cs) (length (t .properties))) _ h)
+        (every-set (λ x. ltb (x .word) wordEnd) cs place c (and-right (eqb (length cs) (length (t .properties))) _ h)
+        (lt-ltb value wordEnd (sent-fits t bs place value s)))
 
 -- An accepted write is answered with 0 and save 01, whatever the cells.
 pub write-accepted : (t : Tree) (cs : List Cell) (bs : List ℕ) (place value : ℕ) (s : Saves t bs place value)
@@ -423,9 +442,9 @@ refusal-keeps t cs host bs = go (answered t cs bs host)
     write r place outOfRange h = refl
 
     go : {a : Answer} → Answered t cs bs a → (a .number ≡ done → ⊥) → a .cells ≡ cs
-    go (coded n p q) h = refl
-    go detected h = refl
-    go (described r node asks) h = refl
-    go (recorded r place asks) h = refl
-    go (measured r place asks) h = refl
+    go (refused n p q) h = refl
+    go acknowledged h = refl
+    go (node-described r node asks) h = refl
+    go (record-described r place asks) h = refl
+    go (word-read r place asks) h = refl
     go (written r place w) h = write r place (outcome (propertyIn t place) (r .value)) h

@@ -1,6 +1,6 @@
 -- Requests: data is read as a request exactly when it is that request's data, and so are strings and datagrams.
 -- Assumes nothing.
-use Prim.Native.Nat.{ℕ, zero, suc, _+_, _-_, _<_, _≤_}
+use Prim.Native.Nat.{ℕ, suc, _+_, _-_, _<_, _≤_}
 use native.Mathlib.Omega.{arith}
 use native.Mathlib.Nat.{not-suc-le-zero}
 use native.Mathlib.Numerals.{add-one}
@@ -359,6 +359,13 @@ readRequest-dataOf r h =
 pub dataOf-injective : (r r′ : Request) → Allowed r → Allowed r′ → dataOf r ≡ dataOf r′ → r ≡ r′
 dataOf-injective r r′ h h′ e =
     ap (λ a. a .request) (sym (readRequest-dataOf r h) ∙ ap readRequest e ∙ readRequest-dataOf r′ h′)
+
+pub value-fits : (r : Request) → fits r ≡ true → opRead < r .op → r .value < wordEnd
+unfolding fits
+value-fits r h w =
+    let both = and-right (pathFits (r .op) (r .path)) _ h in
+    let value = and-right (indexFits (r .op) (r .index)) _ both in
+    ltb-true (r .value) wordEnd (sym (ap (λ t. cond t (ltb (r .value) wordEnd) (eqb (r .value) 0)) (lt-ltb opRead (r .op) w)) ∙ value)
 
 pub path-most : (r : Request) → fits r ≡ true → length (r .path) ≤ maxDepth
 path-most r h = go (asksPath (r .op)) refl

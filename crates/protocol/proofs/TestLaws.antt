@@ -6,7 +6,7 @@ use mathlib.Core.Path.{_≡_, refl, sym, _∙_}
 use mathlib.Core.Bool.{Bool, true, false, cond, _&&_, and-eq-true-iff}
 use mathlib.Core.List.{List, [], _∷_, _++_}
 use borrow.Author.Tests.{eqb-true, eqb-false, leb-true, leb-false}
-use lib.ListN.{getD}
+use lib.ListN.{getD, set}
 use lib.Dec.{eqb, leb}
 use Rattle.protocol.specs.Bytes.{every}
 
@@ -65,6 +65,12 @@ module _ {A : Type 0} (f : A → Bool) where
   pub every-one : (x : A) → f x ≡ true → every f (x ∷ []) ≡ true
   unfolding every
   every-one x h = and-both h refl
+
+  pub every-set : (xs : List A) (i : ℕ) (y : A) → every f xs ≡ true → f y ≡ true → every f (set xs i y) ≡ true
+  unfolding every
+  every-set [] i y h e = refl
+  every-set (x ∷ xs) zero y h e = and-both e (and-right (f x) (every f xs) h)
+  every-set (x ∷ xs) (suc i) y h e = and-both (and-left (f x) (every f xs) h) (every-set xs i y (and-right (f x) (every f xs) h) e)
 
   pub every-weaker : (g : A → Bool) → ((x : A) → f x ≡ true → g x ≡ true) → (xs : List A) → every f xs ≡ true → every g xs ≡ true
   unfolding every
