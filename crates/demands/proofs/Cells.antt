@@ -14,9 +14,9 @@ use Rattle.protocol.specs.Tree.{Property, Cell, isLive, propertyIn, cellIn, rea
 use Rattle.protocol.proofs.TestLaws.{and-left, and-right, and-both}
 use Rattle.protocol.proofs.RuleLaws.{reading-some, not-readable, restored-live, restored-others}
 use Rattle.tree.specs.Seen.{seen}
-use Rattle.tree.specs.Cells.{cellsForm, cellsIn}
-use Rattle.tree.specs.Lent.{isLent, Update, Updates, postIn, Read, Reads, readOf, readIn, orElse, restoreIn}
-use Rattle.tree.proofs.CellLaws.{inWidth, cells-in-form, cells-fit, lent-form}
+use Rattle.cells.specs.Cells.{cellsForm, cellsIn}
+use Rattle.cells.specs.Lent.{isLent, Update, Updates, postIn, Read, Reads, readOf, readIn, orElse, restoreIn}
+use Rattle.cells.proofs.CellLaws.{inWidth, cells-in-form, cells-fit, lent-form}
 use Rattle.demands.specs.Cells.{ReadingKept, RestoreKept}
 
 -- Refusals 1 and 14 of a posting change no cell.

@@ -13,14 +13,14 @@ use Rattle.protocol.specs.Tree.{Tree, Cell, sound, cellsSound}
 use Rattle.protocol.specs.Answer.{answer}
 use Rattle.protocol.proofs.TestLaws.{and-left, and-right, and-both}
 use Rattle.protocol.proofs.FrameLaws.{readFrame-frame, ifSized-sized, readDatagram-datagram}
-use Rattle.tree.specs.Form.{formOf}
+use Rattle.tree.specs.Form.{treeForm}
 use Rattle.tree.specs.Seen.{seen, same, isTree, treeOf}
-use Rattle.tree.specs.Cells.{cellsForm, cellsIn, hasCells}
-use Rattle.tree.specs.Lent.{isLent}
+use Rattle.cells.specs.Cells.{cellsForm, cellsIn, hasCells}
+use Rattle.cells.specs.Lent.{isLent}
 use Rattle.tree.proofs.FoundLaws.{if-some}
 use Rattle.tree.proofs.SameLaws.{same-eq}
 use Rattle.tree.proofs.FormLaws.{sound-parts, form-seen, form-tree}
-use Rattle.tree.proofs.CellLaws.{inWidth, cells-in-form, cells-fit, has-form, lent-form}
+use Rattle.cells.proofs.CellLaws.{inWidth, cells-in-form, cells-fit, has-form, lent-form}
 use Rattle.answer.specs.Serve.{inForm, Call, serving, dataCall, serialCall, udpCall}
 use Rattle.answer.proofs.ServeLaws.{serve-good}
 use Rattle.demands.specs.Forms.{ServesForms, AreForms}
@@ -40,21 +40,21 @@ module _ (t : Tree) (cs : List Cell) (ok : sound t ≡ true) (fit : cellsSound t
   unfolding cellsSound
   counted = and-left (eqb (length cs) (length (t .properties))) (inWidth cs) fit
 
-  tree-read : seen (formOf t) ≡ t
+  tree-read : seen (treeForm t) ≡ t
   tree-read = form-seen t (sound-parts t ok)
 
   cells-read : cellsIn (cellsForm cs) ≡ cs
   cells-read = cells-in-form cs (cells-width t cs fit)
 
-  forms-lent : isLent (formOf t) (cellsForm cs) ≡ true
+  forms-lent : isLent (treeForm t) (cellsForm cs) ≡ true
   unfolding isLent treeOf
   forms-lent =
-      and-both (if-some (isTree (formOf t)) (form-tree t ok) .0)
+      and-both (if-some (isTree (treeForm t)) (form-tree t ok) .0)
       (and-both (has-form cs (cells-width t cs fit))
       (ap₂ (λ c s. eqb (length c) (length (s .properties))) cells-read tree-read ∙ counted))
 
   -- One call, whatever its transport, that is lent the forms, has room, and received data.
-  call-served : (k : Call) (bs : List ℕ) → k .tree ≡ formOf t → k .cells ≡ cellsForm cs → k .string ≡ received bs → k .least ≤ k .room
+  call-served : (k : Call) (bs : List ℕ) → k .tree ≡ treeForm t → k .cells ≡ cellsForm cs → k .string ≡ received bs → k .least ≤ k .room
       → serving k ≡ inForm (k .form) (answer t cs (k .host) bs)
   call-served k bs e f g room =
       serve-good k (record { lent = ap₂ isLent e f ∙ forms-lent; roomy = room }) (ap (λ r. r .number) g)
@@ -70,11 +70,11 @@ module _ (t : Tree) (cs : List Cell) (ok : sound t ≡ true) (fit : cellsSound t
         cells-back = cells-read;
         serves = λ host bs sized. record {
           as-data = λ room h.
-              call-served (dataCall room bs host (formOf t) (cellsForm cs)) bs refl refl (ifSized-sized bs (received bs) sized) h;
+              call-served (dataCall room bs host (treeForm t) (cellsForm cs)) bs refl refl (ifSized-sized bs (received bs) sized) h;
           by-serial = λ address room h.
-              call-served (serialCall address room (frame address bs) host (formOf t) (cellsForm cs)) bs refl refl (readFrame-frame address bs sized) h;
+              call-served (serialCall address room (frame address bs) host (treeForm t) (cellsForm cs)) bs refl refl (readFrame-frame address bs sized) h;
           by-udp = λ room h.
-              call-served (udpCall room (datagram bs) host (formOf t) (cellsForm cs)) bs refl refl (readDatagram-datagram bs sized) h;
+              call-served (udpCall room (datagram bs) host (treeForm t) (cellsForm cs)) bs refl refl (readDatagram-datagram bs sized) h;
         };
       }
 
@@ -85,13 +85,13 @@ lent-exact tree cells all = (forth, back)
   where
     forth : isLent tree cells ≡ true → AreForms tree cells
     forth l =
-        let is : (same tree (formOf (seen tree)) && sound (seen tree)) ≡ true = and-left (isTree tree) _ l in
+        let is : (same tree (treeForm (seen tree)) && sound (seen tree)) ≡ true = and-left (isTree tree) _ l in
         record {
           t = seen tree;
           cs = cellsIn cells;
-          tree-sound = and-right (same tree (formOf (seen tree))) _ is;
+          tree-sound = and-right (same tree (treeForm (seen tree))) _ is;
           cells-sound = cells-sound-in tree cells all l;
-          tree-form = same-eq tree (formOf (seen tree)) (and-left (same tree (formOf (seen tree))) _ is);
+          tree-form = same-eq tree (treeForm (seen tree)) (and-left (same tree (treeForm (seen tree))) _ is);
           cells-form = lent-form tree cells l;
         }
 

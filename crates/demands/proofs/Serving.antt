@@ -22,11 +22,11 @@ use Rattle.protocol.proofs.FrameLaws.{frame-injective, datagram-injective}
 use Rattle.protocol.proofs.AnswerLaws as laws
 use Rattle.protocol.proofs.AnswerLaws.{Answered, answered, refused, acknowledged, node-described, record-described, word-read, written, open-probe, cells-stay-sound, write-answered, write-accepted, write-holds, saved-done, others-stay, refusal-keeps}
 use Rattle.protocol.proofs.RuleLaws.{host-off}
-use Rattle.tree.specs.Cells.{cellsForm, cellsIn}
-use Rattle.tree.specs.Lent.{isLent}
-use Rattle.tree.proofs.CellLaws.{cells-in-form, lent-form}
-use Rattle.answer.specs.Reply.{actionNumber}
-use Rattle.answer.specs.Serve.{turnedAway, inForm, Call, serving, dataCall, serialCall, udpCall, serveData, serveSerial, serveUdp, Serves}
+use Rattle.cells.specs.Cells.{cellsForm, cellsIn}
+use Rattle.cells.specs.Lent.{isLent}
+use Rattle.cells.proofs.CellLaws.{cells-in-form, lent-form}
+use Rattle.answer.specs.Serve.{actionNumber}
+use Rattle.answer.specs.Serve.{rejected, inForm, Call, serving, dataCall, serialCall, udpCall, serveData, serveSerial, serveUdp, Serves}
 use Rattle.answer.proofs.ReadLaws.{Early, early-sized, early-frame, early-datagram}
 use Rattle.answer.proofs.ServeLaws.{answerTo, Open, serve-by, serve-good}
 use Rattle.demands.proofs.Forms.{cells-width, cells-sound-in}
@@ -120,9 +120,9 @@ module _ (k : Call) (transport : Transport k) {out cells′ out′ : List ℕ} {
       lent : isLent (k .tree) (k .cells) ≡ true
       gives : Serves (inForm (k .form) (answerTo k)) out n size action cells′ out′
 
-    refuses : (m : ℕ) → 0 < m → m < disabled → serving k ≡ turnedAway (k .cells) m → NotServed
+    refuses : (m : ℕ) → 0 < m → m < disabled → serving k ≡ rejected (k .cells) m → NotServed
     refuses m p q e =
-        let s : Serves (turnedAway (k .cells) m) out n size action cells′ out′ = subst (λ w. Serves w out n size action cells′ out′) e h in
+        let s : Serves (rejected (k .cells) m) out n size action cells′ out′ = subst (λ w. Serves w out n size action cells′ out′) e h in
         record {
           some-row = omega (arith, s .number);
           early = omega (arith, s .number);

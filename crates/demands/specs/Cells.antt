@@ -7,7 +7,7 @@ use Rattle.protocol.specs.Numbers.{done}
 use Rattle.protocol.specs.Bytes.{Bytes}
 use Rattle.protocol.specs.Tree.{isLive, propertyIn, cellIn, readable}
 use Rattle.tree.specs.Seen.{seen}
-use Rattle.tree.specs.Cells.{cellsIn}
+use Rattle.cells.specs.Cells.{cellsIn}
 
 -- A reading asked for by place: with 0 it is the word of a property that has a number to read; with any other number, and for a
 -- live probe that is not ready always, what lay at the lent place stays.

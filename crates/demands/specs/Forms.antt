@@ -8,24 +8,24 @@ use Rattle.protocol.specs.Numbers.{roomData, roomUdp, roomSerial}
 use Rattle.protocol.specs.Frame.{Sized, frame, datagram}
 use Rattle.protocol.specs.Tree.{Tree, Cell, sound, cellsSound}
 use Rattle.protocol.specs.Answer.{Answer, answer}
-use Rattle.tree.specs.Form.{formOf}
+use Rattle.tree.specs.Form.{treeForm}
 use Rattle.tree.specs.Seen.{seen}
-use Rattle.tree.specs.Cells.{cellsForm, cellsIn}
-use Rattle.tree.specs.Lent.{isLent}
+use Rattle.cells.specs.Cells.{cellsForm, cellsIn}
+use Rattle.cells.specs.Lent.{isLent}
 use Rattle.answer.specs.Serve.{inForm, serveData, serveSerial, serveUdp}
 
 -- Data served from the lent forms of a tree and its cells, by each transport with room enough: an answer, its reply in the form of
 -- the transport. (A string or datagram that is received with 0 is the frame or datagram of its data.)
 pub record ServedAs (t : Tree) (cs : List Cell) (host : Bool) (bs : List ℕ) (a : Answer) : Type 0 where
-  pub as-data : (room : ℕ) → roomData ≤ room → serveData room bs host (formOf t) (cellsForm cs) ≡ inForm (λ reply. reply) a
+  pub as-data : (room : ℕ) → roomData ≤ room → serveData room bs host (treeForm t) (cellsForm cs) ≡ inForm (λ reply. reply) a
   pub by-serial : (address room : ℕ) → roomSerial ≤ room
-      → serveSerial address room (frame address bs) host (formOf t) (cellsForm cs) ≡ inForm (frame address) a
-  pub by-udp : (room : ℕ) → roomUdp ≤ room → serveUdp room (datagram bs) host (formOf t) (cellsForm cs) ≡ inForm datagram a
+      → serveSerial address room (frame address bs) host (treeForm t) (cellsForm cs) ≡ inForm (frame address) a
+  pub by-udp : (room : ℕ) → roomUdp ≤ room → serveUdp room (datagram bs) host (treeForm t) (cellsForm cs) ≡ inForm datagram a
 
 -- A tree and cells that can be lent: their forms pass the check, read back, and are answered by the rules.
 pub record ServesForms (t : Tree) (cs : List Cell) : Type 0 where
-  pub lent : isLent (formOf t) (cellsForm cs) ≡ true
-  pub tree-back : seen (formOf t) ≡ t
+  pub lent : isLent (treeForm t) (cellsForm cs) ≡ true
+  pub tree-back : seen (treeForm t) ≡ t
   pub cells-back : cellsIn (cellsForm cs) ≡ cs
   pub serves : (host : Bool) (bs : List ℕ) → Sized bs → ServedAs t cs host bs (answer t cs host bs)
 
@@ -35,5 +35,5 @@ pub record AreForms (tree cells : List ℕ) : Type 0 where
   pub cs : List Cell
   pub tree-sound : sound t ≡ true
   pub cells-sound : cellsSound t cs ≡ true
-  pub tree-form : tree ≡ formOf t
+  pub tree-form : tree ≡ treeForm t
   pub cells-form : cells ≡ cellsForm cs

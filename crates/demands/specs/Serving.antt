@@ -14,7 +14,7 @@ use Rattle.protocol.specs.Tree.{Tree, Cell, isLive, propertyIn, cellIn}
 use Rattle.protocol.specs.Answer.{stored, Outcome, outcome, saveByte, echoIndexed, writeReply, refusalCode}
 use Rattle.protocol.proofs.AnswerLaws.{Finds, ReadAs, Writes, Saves}
 use Rattle.tree.specs.Seen.{seen}
-use Rattle.tree.specs.Cells.{cellsIn}
+use Rattle.cells.specs.Cells.{cellsIn}
 use Rattle.answer.specs.Serve.{Call}
 use Rattle.answer.proofs.ServeLaws.{Open}
 
