@@ -29,8 +29,8 @@ use Rattle.answer.specs.Serve.{actionNumber}
 use Rattle.answer.specs.Serve.{rejected, inForm, Call, serving, dataCall, serialCall, udpCall, serveData, serveSerial, serveUdp, Serves}
 use Rattle.answer.proofs.ReadLaws.{Early, early-sized, early-frame, early-datagram}
 use Rattle.answer.proofs.ServeLaws.{answerTo, Open, serve-by, serve-good}
-use Rattle.demands.proofs.Forms.{cells-width, cells-sound-in}
 use Rattle.demands.specs.Serving.{treeIn, cellAt, AsksOpenProbe, WritesTo, SavesTo, outcomeIn, acceptedReply, Refusal, code, not-saved, Kept}
+use Rattle.demands.proofs.Forms.{cells-width, cells-sound-in}
 
 -- What is assumed of a transport: rows 2 to 7 come before 9, no string is the form of two replies, and no form of a reply is empty.
 record Transport (k : Call) : Type 0 where
