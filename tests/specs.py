@@ -4,7 +4,7 @@ Usage: specs.py            prints the table of README.md: each such file, and ho
        specs.py check      says whether README.md has this table, and whether no promise rests on a file that follows the code
 
 A file of definitions that follow the code step by step says so in its first line. No other file of definitions may name one of
-these, nor may a clause of a function that is public.
+these, nor take a definition from proofs/, nor may a clause of a public function name one.
 """
 import pathlib
 import re
@@ -46,7 +46,7 @@ def table():
 
 
 # The names that a file takes from definitions that follow the code; every name of a file that is taken whole.
-def taken(text, here, steps):
+def taken(text, steps):
     names = set()
     for c, module, listed in USE.findall(text):
         if (c, module) in steps:
@@ -64,10 +64,12 @@ def public_clauses(text):
 def faults():
     steps = {(crate(f), f.stem) for f in files() if is_steps(f)}
     for f in files():
-        if not is_steps(f) and taken(f.read_text(), crate(f), steps):
+        if not is_steps(f) and taken(f.read_text(), steps):
             yield f"{f.relative_to(ROOT)} names definitions that follow the code"
+        if re.search(r"use Rattle·.*proofs", f.read_text()):
+            yield f"{f.relative_to(ROOT)} takes a definition from proofs/"
     for f in sorted(ROOT.glob("crates/*/src/*.rt")):
-        names = taken(f.read_text(), crate(f), steps)
+        names = taken(f.read_text(), steps)
         for function, clauses in public_clauses(f.read_text()):
             cited = names & set(re.findall(r"[^\s(){}.,]+", clauses))
             if cited:

@@ -27,7 +27,7 @@ use Rattle.cells.specs.Lent.{isLent, lentNumber}
 use Rattle.cells.proofs.CellLaws.{lent-done, lent-refused}
 use Rattle.answer.specs.Steps.{answerAsked, Answers}
 use Rattle.answer.proofs.AnswerLaws.{lent-sound}
-use Rattle.answer.specs.Serve.{rejected, inForm, serve, Call, serving, Serves}
+use Rattle.answer.specs.Serve.{Open, rejected, inForm, serve, Call, serving, Serves}
 
 -- What is read, answered, is its data answered.
 answered-data : (t : Tree) (cs : List Cell) (host : Bool) (bs : List ℕ) → answerAsked t cs host (readRequest bs) ≡ answer t cs host bs
@@ -81,20 +81,16 @@ module _ (k : Call) where
       go true false p q f = absurd (u f)
       go false v p q f = gives-row (serve-by false v (eqb (k .string .number) done) p q refl) f away out
 
-  pub record Open : Type 0 where
-    pub lent : isLent (k .tree) (k .cells) ≡ true
-    pub roomy : k .least ≤ k .room
-
-  pub opened : {n : ℕ} → n ≡ lentRow k → n ≡ done → Open
+  pub opened : {n : ℕ} → n ≡ lentRow k → n ≡ done → Open k
   opened {n} e d = go (isLent (k .tree) (k .cells)) (ltb (k .room) (k .least)) refl refl e
     where
-      go : (t v : Bool) → isLent (k .tree) (k .cells) ≡ t → ltb (k .room) (k .least) ≡ v → n ≡ cond t (cond v noRoom done) unsound → Open
+      go : (t v : Bool) → isLent (k .tree) (k .cells) ≡ t → ltb (k .room) (k .least) ≡ v → n ≡ cond t (cond v noRoom done) unsound → Open k
       go true true p q f = absurd (omega (arith, f, d))
       go true false p q f = record { lent = p; roomy = ltb-false (k .room) (k .least) q }
       go false v p q f = absurd (omega (arith, f, d))
 
   -- The rows of what was received, and the answer.
-  module _ (o : Open) where
+  module _ (o : Open k) where
     pub serve-refused : {n given len action : ℕ} → n ≡ k .string .number → (k .string .number ≡ done → ⊥)
         → (given ≡ n) × ((len ≡ 0) × (action ≡ 255)) → (out : List ℕ) → Serves (serving k) out given len action (k .cells) out
     serve-refused e u away out =

@@ -1,7 +1,7 @@
 -- 01, Numbers returned: a serving call, whatever it is lent.
-use Prim.Native.Nat.{ℕ}
+use Prim.Native.Nat.{ℕ, _≤_}
 use mathlib.Core.Path.{_≡_}
-use mathlib.Core.Bool.{Bool, cond}
+use mathlib.Core.Bool.{Bool, true, cond}
 use mathlib.Core.List.{List, []}
 use mathlib.Core.Option.{Option, none, some}
 use lib.ListN.{length}
@@ -53,6 +53,11 @@ pub record Call : Type 0 where
 
 abbrev pub serving : Call → Service
 serving k = serve (k .form) (k .least) (k .room) (k .string) (k .host) (k .tree) (k .cells)
+
+-- A call that is lent a sound tree with its cells, and room enough: neither 1 nor 8.
+pub record Open (k : Call) : Type 0 where
+  pub lent : isLent (k .tree) (k .cells) ≡ true
+  pub roomy : k .least ≤ k .room
 
 -- The three transports: request data, a serial string for the box's address, a datagram. A serial reply carries that address.
 abbrev pub dataCall : ℕ → List ℕ → Bool → List ℕ → List ℕ → Call

@@ -26,9 +26,9 @@ use Rattle.cells.specs.Cells.{cellsForm, cellsIn}
 use Rattle.cells.specs.Lent.{isLent}
 use Rattle.cells.proofs.CellLaws.{cells-in-form, lent-form}
 use Rattle.answer.specs.Serve.{actionNumber}
-use Rattle.answer.specs.Serve.{rejected, inForm, Call, serving, dataCall, serialCall, udpCall, serveData, serveSerial, serveUdp, Serves}
+use Rattle.answer.specs.Serve.{Open, rejected, inForm, Call, serving, dataCall, serialCall, udpCall, serveData, serveSerial, serveUdp, Serves}
 use Rattle.answer.proofs.ReadLaws.{Early, early-sized, early-frame, early-datagram}
-use Rattle.answer.proofs.ServeLaws.{answerTo, Open, serve-by, serve-good}
+use Rattle.answer.proofs.ServeLaws.{answerTo, serve-by, serve-good}
 use Rattle.demands.specs.Serving.{treeIn, cellAt, AsksOpenProbe, WritesTo, SavesTo, outcomeIn, acceptedReply, Refusal, code, not-saved, Kept}
 use Rattle.demands.proofs.Forms.{cells-width, cells-sound-in}
 

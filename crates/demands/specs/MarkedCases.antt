@@ -1,5 +1,5 @@
 -- 01, Bench tree and its cases: the marked cases, served from the bytes of the bench tree and its cells. (They are what
--- `bench::tree` and `bench::cells` of `tree` return.)
+-- `tree::bench::tree` and `cells::bench::cells` return.)
 use mathlib.Core.Path.{_≡_}
 use mathlib.Core.Bool.{true}
 use mathlib.Core.List.{List, [], _∷_}

@@ -6,17 +6,15 @@ use mathlib.Core.List.{List, [], _∷_, _++_}
 use mathlib.Core.Logic.{_⊎_}
 use lib.ListN.{take}
 use lib.Dec.{eqb}
-use Rattle.protocol.specs.Numbers.{done, disabled, noReading, notSaved, BUSY, DISABLED, NAK, opRead, opWrite, saveFailed, saveDone, saveNone}
+use Rattle.protocol.specs.Numbers.{done, disabled, noReading, notSaved, noAction, BUSY, DISABLED, NAK, opRead, opWrite, saveFailed, saveDone, saveNone}
 use Rattle.protocol.specs.Bytes.{Bytes, word, text}
 use Rattle.protocol.specs.Buffer.{over}
 use Rattle.protocol.specs.Request.{Request}
 use Rattle.protocol.specs.Tree.{Tree, Cell, isLive, propertyIn, cellIn}
-use Rattle.protocol.specs.Answer.{stored, Outcome, outcome, saveByte, echoIndexed, writeReply, refusalCode}
-use Rattle.protocol.proofs.AnswerLaws.{Finds, ReadAs, Writes, Saves}
+use Rattle.protocol.specs.Answer.{Finds, ReadAs, Writes, Saves, stored, Outcome, outcome, saveByte, echoIndexed, writeReply, refusalCode}
 use Rattle.tree.specs.Seen.{seen}
 use Rattle.cells.specs.Cells.{cellsIn}
-use Rattle.answer.specs.Serve.{Call}
-use Rattle.answer.proofs.ServeLaws.{Open}
+use Rattle.answer.specs.Serve.{Call, Open}
 
 -- The tree that a call is lent, and a cell in lent bytes.
 abbrev pub treeIn : Call → Tree
@@ -74,7 +72,7 @@ pub record Kept (k : Call) (out : List ℕ) (n size action : ℕ) (cells′ out�
   -- Demand 2: 0 and save byte 01 mean that the setting's cell holds the number sent; there is no action.
   pub save-01 : Bytes (k .cells) → n ≡ done → (r : Request) (place : ℕ) → WritesTo k r place
       → take size out′ ≡ k .form (acceptedReply r saveDone)
-      → (cellAt cells′ place ≡ stored (cellAt (k .cells) place) (r .value)) × (action ≡ 255)
+      → (cellAt cells′ place ≡ stored (cellAt (k .cells) place) (r .value)) × (action ≡ noAction)
   -- 0 and save byte 02 mean that no cell changed; the action of the property is to be taken.
   pub save-02 : n ≡ done → (r : Request) (place : ℕ) → WritesTo k r place
       → take size out′ ≡ k .form (acceptedReply r saveNone)

@@ -15,7 +15,7 @@ use Rattle.protocol.specs.Bytes.{every, half, word, text, texts}
 use Rattle.protocol.specs.Frame.{Sized}
 use Rattle.protocol.specs.Request.{Request, Asked, asksIndex, asksValue, fits, askedIf, declined, beforeZero, readIndexed, readValued, readShape, readRequest}
 use Rattle.protocol.specs.Tree.{Node, Property, Tree, Cell, isLive, isText, isName, kindSound, liveSound, widthsSound, placesFrom, numbered, propertiesOf, propertyOf, nodeAt, nodeIn, propertyIn, cellIn, cellsSound, depthsSound, parentsSound, optionsSound, propertySound, nodesSound, propertiesSound, sound, readable}
-use Rattle.protocol.specs.Answer.{Outcome, saved, taken, readOnly, outOfRange, outcome, reason, writeNumber, stored, cellsAfter, echo, echoIndexed, nodeReply, recordReply, readReply, writeReply, Answer, plain, refuse, refusalCode, onRead, onWrite, onProperty, ifProperty, ifNode, perform, ifAsked, answer}
+use Rattle.protocol.specs.Answer.{Finds, ReadAs, Writes, Saves, Outcome, saved, taken, readOnly, outOfRange, outcome, reason, writeNumber, stored, cellsAfter, echo, echoIndexed, nodeReply, recordReply, readReply, writeReply, Answer, plain, refuse, refusalCode, onRead, onWrite, onProperty, ifProperty, ifNode, perform, ifAsked, answer}
 use Rattle.protocol.proofs.TestLaws.{and-left, and-right, and-both, if-both, if-case, every-at, every-set, every-weaker}
 use Rattle.protocol.proofs.RequestLaws.{path-most, value-fits}
 use Rattle.protocol.proofs.RuleLaws.{not-readable}
@@ -160,12 +160,6 @@ module _ (r : Request) (path : length (r .path) ≤ maxDepth) where
   unfolding writeReply word
   write-size o = indexed-size _ (omega (arith, ending-short (eqb (r .op) opWrite) o))
 
--- A request that names a property: its path has a node, and the node has a property with its index, at a place.
-pub record Finds (t : Tree) (r : Request) (place : ℕ) : Type 0 where
-  pub node : ℕ
-  pub atNode : nodeAt t (r .path) ≡ some node
-  pub atProperty : propertyOf t node (record { 0 = r .index }) ≡ some place
-
 -- The places that a test picks out of a list lie within it.
 picked : {A : Type 0} (f : A → Bool) (xs : List A) (k n place : ℕ) → getElem? (placesFrom k f xs) n ≡ some place
     → place < k + length xs
@@ -196,16 +190,6 @@ property-below t node index place h =
 
 pub finds-below : (t : Tree) (r : Request) (place : ℕ) → Finds t r place → place < length (t .properties)
 finds-below t r place f = property-below t (f .node) (r .index) place (f .atProperty)
-
--- Data that is read as a request.
-abbrev pub ReadAs : List ℕ → Request → Type 0
-ReadAs bs r = readRequest bs ≡ record { number = done; request = r }
-
--- Data that is read as a write to the property at a place.
-pub record Writes (t : Tree) (bs : List ℕ) (r : Request) (place : ℕ) : Type 0 where
-  pub asks : ReadAs bs r
-  pub writes : opRead < r .op
-  pub finds : Finds t r place
 
 read-fits : (bs : List ℕ) (r : Request) → ReadAs bs r → fits r ≡ true
 read-fits bs r asks = ap (λ a. fits (a .request)) (sym asks) ∙ readRequest-fits bs .fit (ap (λ a. a .number) asks)
@@ -339,13 +323,6 @@ write-answered t cs bs r place w =
     answer-asked t cs bs r (w .asks)
     ∙ finds-performs t cs r place (w .finds) (omega arith)
     ∙ rw (ne-eqb (r .op) opRecord (λ e. omega (arith, e, above)), ne-eqb (r .op) opRead (λ e. omega (arith, e, above)))
-
--- A write that is accepted: the outcome is that the value is saved.
-pub record Saves (t : Tree) (bs : List ℕ) (place value : ℕ) : Type 0 where
-  pub request : Request
-  pub writes : Writes t bs request place
-  pub saves : outcome (propertyIn t place) value ≡ saved
-  pub sent : request .value ≡ value
 
 -- The cells after any request: as they were, or with the one setting that was written.
 pub data Changes (t : Tree) (cs : List Cell) (bs : List ℕ) (after : List Cell) : Type 0 where

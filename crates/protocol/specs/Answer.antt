@@ -1,5 +1,6 @@
 -- 01, Requests and replies, and Numbers returned: what the box answers to a request's data.
-use Prim.Native.Nat.{ℕ}
+use Prim.Native.Nat.{ℕ, _<_}
+use mathlib.Core.Path.{_≡_}
 use mathlib.Core.Bool.{Bool, true, false, cond, _&&_}
 use mathlib.Core.List.{List, [], _∷_, _++_}
 use mathlib.Core.Option.{Option, none, some}
@@ -161,3 +162,26 @@ ifAsked t cs a = cond (eqb (a .number) done) (perform t cs (a .request)) (refuse
 unfoldable pub answer : Tree → List Cell → Bool → List ℕ → Answer
 answer t cs true bs = ifAsked t cs (readRequest bs)
 answer t cs false bs = refuse cs disabled
+
+-- A request that names a property: its path has a node, and the node has a property with its index, at a place.
+pub record Finds (t : Tree) (r : Request) (place : ℕ) : Type 0 where
+  pub node : ℕ
+  pub atNode : nodeAt t (r .path) ≡ some node
+  pub atProperty : propertyOf t node (record { 0 = r .index }) ≡ some place
+
+-- Data that is read as a request.
+abbrev pub ReadAs : List ℕ → Request → Type 0
+ReadAs bs r = readRequest bs ≡ record { number = done; request = r }
+
+-- Data that is read as a write to the property at a place.
+pub record Writes (t : Tree) (bs : List ℕ) (r : Request) (place : ℕ) : Type 0 where
+  pub asks : ReadAs bs r
+  pub writes : opRead < r .op
+  pub finds : Finds t r place
+
+-- A write that is accepted: the outcome is that the value is saved.
+pub record Saves (t : Tree) (bs : List ℕ) (place value : ℕ) : Type 0 where
+  pub request : Request
+  pub writes : Writes t bs request place
+  pub saves : outcome (propertyIn t place) value ≡ saved
+  pub sent : request .value ≡ value

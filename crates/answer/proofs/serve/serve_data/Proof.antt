@@ -5,9 +5,9 @@ use borrow.Author.Needs.{needs}
 use lib.ListN.{length}
 use Rattle.protocol.specs.Frame.{received}
 use Rattle.protocol.specs.Request.{readRequest}
-use Rattle.answer.specs.Serve.{Call, dataCall}
+use Rattle.answer.specs.Serve.{Call, dataCall, Open}
 use Rattle.answer.proofs.ReadLaws.{sized-done, sized-refused, asked-is, asks}
-use Rattle.answer.proofs.ServeLaws.{answerTo, Open, opened, serve-unlent, serve-refused, serve-answered, answered-as, as-data}
+use Rattle.answer.proofs.ServeLaws.{answerTo, opened, serve-unlent, serve-refused, serve-answered, answered-as, as-data}
 use Rattle.answer.proofs.serve.serve_data.Statement.{statement}
 use Rattle.answer.proofs.serve.serve_data.Tie as tie
 

@@ -5,9 +5,9 @@ use borrow.Author.Needs.{needs}
 use lib.ListN.{length}
 use Rattle.protocol.specs.Request.{readSerial}
 use Rattle.request.proofs.WriteLaws.{part-size}
-use Rattle.answer.specs.Serve.{Call, serialCall}
+use Rattle.answer.specs.Serve.{Call, serialCall, Open}
 use Rattle.answer.proofs.ReadLaws.{Read, early-frame, row-of-string, row-of-data}
-use Rattle.answer.proofs.ServeLaws.{answerTo, Open, opened, serve-unlent, serve-refused, serve-answered, replies, answered-as, as-serial, reply-within}
+use Rattle.answer.proofs.ServeLaws.{answerTo, opened, serve-unlent, serve-refused, serve-answered, replies, answered-as, as-serial, reply-within}
 use Rattle.answer.proofs.serve.serve_serial.Statement.{statement}
 use Rattle.answer.proofs.serve.serve_serial.Tie as tie
 

@@ -5,9 +5,9 @@ use borrow.Author.Needs.{needs}
 use lib.ListN.{length, length-drop}
 use Rattle.protocol.specs.Request.{readUdp}
 use Rattle.protocol.proofs.BufferLaws.{part-lent}
-use Rattle.answer.specs.Serve.{Call, udpCall}
+use Rattle.answer.specs.Serve.{Call, udpCall, Open}
 use Rattle.answer.proofs.ReadLaws.{Read, early-datagram, row-of-string, row-of-data}
-use Rattle.answer.proofs.ServeLaws.{answerTo, Open, opened, serve-unlent, serve-refused, serve-answered, replies, answered-as, as-udp, front-short, reply-short}
+use Rattle.answer.proofs.ServeLaws.{answerTo, opened, serve-unlent, serve-refused, serve-answered, replies, answered-as, as-udp, front-short, reply-short}
 use Rattle.answer.proofs.serve.serve_udp.Statement.{statement}
 use Rattle.answer.proofs.serve.serve_udp.Tie as tie
 
