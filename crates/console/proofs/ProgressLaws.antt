@@ -14,7 +14,8 @@ use Rattle.protocol.specs.Stream.{Stream, Event, step}
 use Rattle.protocol.proofs.TestLaws.{if-both}
 use Rattle.stream.specs.State.{hasForm, standing, keep}
 use Rattle.stream.specs.Feed.{FedBy, Ran, fedBy, fed, runFrom, next}
-use Rattle.stream.proofs.DeliveryLaws.{state-of, Follows, follows}
+use Rattle.stream.proofs.StateLaws.{state-of}
+use Rattle.stream.proofs.DeliveryLaws.{Follows, follows}
 use Rattle.console.specs.Bench.{benchAddress, textRoom, shows, stepped, Stepped, Steps, Progress}
 
 -- A run takes something where there is something.

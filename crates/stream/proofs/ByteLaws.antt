@@ -17,7 +17,7 @@ use Rattle.protocol.proofs.ListLaws.{bytes-cons, bytes-none, bytes-append, byte
 use Rattle.stream.specs.State.{phaseOf, contentIn, stateForm, keep, phaseIn, lengthIn, hasForm, streamWith, standing}
 use Rattle.stream.specs.Feed.{Ran, next, runFrom, FedBy, fed}
 use Rattle.stream.specs.Delivery.{Delivery, Meets}
-use Rattle.stream.proofs.DeliveryLaws.{phase-low}
+use Rattle.stream.proofs.StateLaws.{phase-low}
 
 -- A form, alone and over the bytes that were there.
 pub state-bytes : (s : Stream) → Bytes (contentIn s) → Bytes (stateForm s)

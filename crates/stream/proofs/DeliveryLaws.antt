@@ -5,144 +5,33 @@ use native.Mathlib.Omega.{arith}
 use native.Mathlib.Nat.{le-refl, add-suc, suc-add}
 use native.Mathlib.Numerals.{add-one}
 use mathlib.Core.Path.{_≡_, refl, sym, ap, ap₂, subst, _∙_}
-use mathlib.Core.Bool.{Bool, true, false, cond, _||_, false≢true}
+use mathlib.Core.Bool.{Bool, true, false, cond, false≢true}
 use mathlib.Core.List.{List, [], _∷_, _++_, append-assoc, append-nil}
-use mathlib.Core.Option.{some}
-use borrow.Author.Tests.{eq-eqb, eqb-true, le-leb, ltb-true}
-use lib.ListN.{length, take, drop, replicate, length-append, length-drop}
-use lib.Seq.{take-at, length-take-le}
-use lib.Dec.{eqb, ltb, leb}
-use Rattle.protocol.specs.Numbers.{done, unsound, noRoom, noFrame, DLE, STX, ETX, maxContent, roomData}
-use Rattle.protocol.specs.Bytes.{half}
+use borrow.Author.Tests.{eqb-true}
+use lib.ListN.{length, take, replicate, length-append}
+use lib.Seq.{length-take-le}
+use lib.Dec.{eqb, ltb}
+use Rattle.protocol.specs.Numbers.{done, unsound, noRoom, noFrame, ETX, maxContent, roomData}
 use Rattle.protocol.specs.Frame.{Received, received, judge, wrap, frame, contentOf, addressIn, Sized}
 use Rattle.protocol.specs.Stream as rule
-use Rattle.protocol.specs.Stream.{Stream, outside, inside, Event, step, collect, on, ends, handUp, handedUpFrom, handedUp}
-use Rattle.protocol.proofs.TestLaws.{and-both, if-both}
+use Rattle.protocol.specs.Stream.{Stream, inside, Event, step, handUp, handedUpFrom, handedUp}
+use Rattle.protocol.proofs.TestLaws.{if-both}
 use Rattle.protocol.proofs.BufferLaws.{over-front}
 use Rattle.protocol.proofs.FrameLaws.{judge-only, Good, isSummed, length-contentOf}
 use Rattle.protocol.proofs.StreamLaws.{closing, after-append, handedUp-append, closed-stands, second-sending}
-use Rattle.stream.specs.State.{stateLength, phaseOf, contentIn, keep, phaseIn, lengthIn, hasForm, streamWith, standing, streamOf}
+use Rattle.stream.specs.State.{stateLength, contentIn, keep, hasForm, streamWith, standing}
 use Rattle.stream.specs.Feed.{Ran, one-more, ended, next, runFrom, FedBy, eventResult, fedBy, takesNone, fed, Feeds}
 use Rattle.stream.specs.Delivery.{Delivery, Meets, Deliveries, Begins, took, joined, endsNoFrame, entry, handedBy, Stands, AllStand, NoneUnsound, stateAfter, settled, Delivered}
-use Rattle.stream.proofs.FeedLaws.{head, keep-is, not-closed, Formed, form-of, stands}
+use Rattle.stream.proofs.FeedLaws.{not-closed}
+use Rattle.stream.proofs.StateLaws.{StateOf, state-of-kept, state-of, step-few}
 
--- A state whose bytes are the form of a place in the stream rule.
-pub record StateOf (s : Stream) (st : List ℕ) : Type 0 where
-  pub size : length st ≡ stateLength
-  pub few : length (contentIn s) ≤ maxContent
-  pub form : hasForm st ≡ true
-  pub is : standing st ≡ s
-
-with-own : (s : Stream) → streamWith (phaseOf s) (contentIn s) ≡ s
-unfolding streamWith
-with-own (outside false) = refl
-with-own (outside true) = refl
-with-own (inside false c) = refl
-with-own (inside true c) = refl
-
-inside-or-empty : (s : Stream) {n : ℕ} → n ≡ length (contentIn s) → (leb 2 (phaseOf s) || eqb n 0) ≡ true
-inside-or-empty (outside false) e = eq-eqb _ 0 e
-inside-or-empty (outside true) e = eq-eqb _ 0 e
-inside-or-empty (inside false c) e = refl
-inside-or-empty (inside true c) e = refl
-
-pub phase-low : (s : Stream) → phaseOf s ≤ 3
-phase-low (outside false) = omega arith
-phase-low (outside true) = omega arith
-phase-low (inside false c) = omega arith
-phase-low (inside true c) = omega arith
-
-has-form : (st : List ℕ) → length st ≡ stateLength → phaseIn st ≤ 3 → lengthIn st ≤ maxContent
-    → (leb 2 (phaseIn st) || eqb (lengthIn st) 0) ≡ true → hasForm st ≡ true
-unfolding hasForm
-has-form st a b c d =
-    and-both (eq-eqb (length st) stateLength a)
-    (and-both (le-leb (phaseIn st) 3 b) (and-both (le-leb (lengthIn st) maxContent c) d))
-
-length-head : (s : Stream) (rest : List ℕ) → length (contentIn s) ≤ maxContent → lengthIn (head s rest) ≡ length (contentIn s)
-unfolding half
-length-head s rest h = omega arith
-
-size-head : (s : Stream) (rest : List ℕ) → length rest ≡ maxContent → length (head s rest) ≡ stateLength
-unfolding half
-size-head s rest h = omega (arith, h)
-
-content-head : (s : Stream) (tail : List ℕ) → lengthIn (head s (contentIn s ++ tail)) ≡ length (contentIn s)
-    → take (lengthIn (head s (contentIn s ++ tail))) (drop 3 (head s (contentIn s ++ tail))) ≡ contentIn s
-unfolding half
-content-head s tail e =
-    ap (λ n. take n (contentIn s ++ tail)) e ∙ take-at (contentIn s) tail (length (contentIn s)) refl
-
--- Every place of the stream rule has a form, and reading the form gives the place back.
-pub state-of-kept : (s : Stream) (st : List ℕ) → length st ≡ stateLength → length (contentIn s) ≤ maxContent → StateOf s (keep s st)
-state-of-kept s st l h =
-    let n : ℕ = length (contentIn s) in
-    let tail : List ℕ = drop n (drop 3 st) in
-    let rest : List ℕ = contentIn s ++ tail in
-    let len : lengthIn (head s rest) ≡ n = length-head s rest h in
-    let all : length rest ≡ maxContent =
-    omega (arith, length-append (contentIn s) tail, length-drop n (drop 3 st), length-drop 3 st, l, h) in
-    rw (keep-is s st)
-    (record {
-      size = size-head s rest all;
-      few = h;
-      form =
-          has-form (head s rest) (size-head s rest all) (phase-low s) (omega (arith, len, h)) (inside-or-empty s len);
-      is = ap (streamWith (phaseOf s)) (content-head s tail len) ∙ with-own s;
-    })
-
--- A state that has a form stands for a place, and so does one that stands for the beginning.
-pub state-of : (st : List ℕ) → hasForm st ≡ true → StateOf (standing st) st
-state-of st h =
-    let f : Formed st = form-of st h in
-    record { size = f .size; few = omega (arith, stands st f .len, stands st f .most); form = h; is = refl }
-
+-- A state that stands for the beginning; zeros do, as `pq_begin_stream` writes them.
 pub begins : {st : List ℕ} → Begins st → StateOf rule.begin st
 begins {st} b = subst (λ s. StateOf s st) (b .outside) (state-of st (b .form))
 
--- Zeros do, as `pq_begin_stream` writes them.
 pub fresh-begins : Begins (replicate stateLength 0)
 unfolding hasForm streamWith
 fresh-begins = record { form = refl; outside = refl }
-
--- A form is read back.
-pub form-read : (s : Stream) (st : List ℕ) → length st ≡ stateLength → length (contentIn s) ≤ maxContent → streamOf (keep s st) ≡ some s
-unfolding streamOf
-form-read s st l h =
-    let w : StateOf s (keep s st) = state-of-kept s st l h in
-    rw (w .form) (ap some (w .is))
-
--- A step keeps at most 258 content bytes.
-record Few (m : rule.Step) : Type 0 where
-  few : length (contentIn (m .after)) ≤ maxContent
-
-collect-few : (c : List ℕ) (b : ℕ) → Few (collect c b)
-unfolding collect
-collect-few c b = go (ltb (length c) maxContent) refl
-  where
-    go : (t : Bool) → ltb (length c) maxContent ≡ t → Few (cond t (on (inside false (c ++ b ∷ []))) (ends rule.droppedLong))
-    go true e = record { few = omega (arith, ltb-true (length c) maxContent e, length-append c (b ∷ [])) }
-    go false e = record { few = omega arith }
-
-on-few : (s : Stream) → length (contentIn s) ≤ maxContent → Few (on s)
-on-few s h = record { few = h }
-
-ends-few : (e : Event) → Few (ends e)
-ends-few e = record { few = omega arith }
-
-opening-few : (t : Bool) → Few (on (cond t (inside false []) (outside false)))
-opening-few true = record { few = omega arith }
-opening-few false = record { few = omega arith }
-
-step-few : (s : Stream) (b : ℕ) → length (contentIn s) ≤ maxContent → Few (step s b)
-unfolding step
-step-few (outside false) b h = on-few (outside (eqb b DLE)) (omega arith)
-step-few (outside true) b h = opening-few (eqb b STX)
-step-few (inside false c) b h = if-both Few (eqb b DLE) (on-few (inside true c) h) (collect-few c b)
-step-few (inside true c) b h =
-    if-both Few (eqb b DLE) (collect-few c DLE)
-    (if-both Few (eqb b ETX) (ends-few (rule.closed c))
-    (if-both Few (eqb b STX) (on-few (inside false []) (omega arith)) (ends-few rule.droppedPair)))
 
 -- The last byte of a call that closed a frame.
 pub record ClosedBy (s : Stream) (bs c : List ℕ) : Type 0 where

@@ -2,5 +2,6 @@
 pub mod PlaceLaws
 pub mod FeedLaws
 pub mod CallLaws
-pub mod DeliveryLaws
+pub mod StateLaws
 pub mod ByteLaws
+pub mod DeliveryLaws
