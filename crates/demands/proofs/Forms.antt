@@ -23,7 +23,7 @@ use Rattle.tree.proofs.FormLaws.{sound-parts, form-seen, form-tree}
 use Rattle.cells.proofs.CellLaws.{inWidth, cells-in-form, cells-fit, has-form, lent-form}
 use Rattle.answer.specs.Serve.{inForm, Call, serving, dataCall, serialCall, udpCall}
 use Rattle.answer.proofs.ServeLaws.{serve-good}
-use Rattle.demands.specs.Forms.{ServesForms, AreForms}
+use Rattle.demands.specs.Forms.{ServesForms, AreForms, FormsAnswered}
 
 -- The words of sound cells are of 32 bits, and the cells that lie beside a lent tree are sound for it.
 pub cells-width : (t : Tree) (cs : List Cell) → cellsSound t cs ≡ true → inWidth cs ≡ true
@@ -97,3 +97,6 @@ lent-exact tree cells all = (forth, back)
 
     back : AreForms tree cells → isLent tree cells ≡ true
     back f = ap₂ isLent (f .tree-form) (f .cells-form) ∙ forms-served (f .t) (f .cs) (f .tree-sound) (f .cells-sound) .lent
+
+pub forms-answered : FormsAnswered
+forms-answered = record { served = forms-served; lent-exactly = lent-exact }

@@ -1,10 +1,12 @@
 -- Lent forms and what is served from them: every sound tree, with every state of its cells, can be lent and is answered by the
 -- rules; and nothing else is served.
 use Prim.Native.Nat.{ℕ, _≤_}
+use mathlib.Core.Logic.{_↔_}
 use mathlib.Core.Path.{_≡_}
 use mathlib.Core.Bool.{Bool, true}
 use mathlib.Core.List.{List}
 use Rattle.protocol.specs.Numbers.{roomData, roomUdp, roomSerial}
+use Rattle.protocol.specs.Bytes.{Bytes}
 use Rattle.protocol.specs.Frame.{Sized, frame, datagram}
 use Rattle.protocol.specs.Tree.{Tree, Cell, sound, cellsSound}
 use Rattle.protocol.specs.Answer.{Answer, answer}
@@ -37,3 +39,9 @@ pub record AreForms (tree cells : List ℕ) : Type 0 where
   pub cells-sound : cellsSound t cs ≡ true
   pub tree-form : tree ≡ treeForm t
   pub cells-form : cells ≡ cellsForm cs
+
+-- Forms and answers: every sound tree with cells that fit it is served from its form by the rules, and bytes are lent exactly where
+-- they are such forms.
+pub record FormsAnswered : Type 0 where
+  pub served : (t : Tree) (cs : List Cell) → sound t ≡ true → cellsSound t cs ≡ true → ServesForms t cs
+  pub lent-exactly : (tree cells : List ℕ) → Bytes cells → (isLent tree cells ≡ true) ↔ AreForms tree cells
