@@ -87,7 +87,7 @@ returns c =
     subst (λ t. ServesLines (serveData roomData (start .args .request .now) true t (start .args .cells .now)) (start .args .out .now)
     (shown .put-lines .result) (told .serve-data .last .1 .0) (shown .put-lines .last .1 .1 .0))
     (tree-of told .tree .ensures)
-    (lined _ (told .serve-data .ensures) (omega arith) (framed .write-frame .ensures) (shown .put-lines .ensures))
+    (lined (serveData roomData (start .args .request .now) true (tree-of told .tree .result) (start .args .cells .now)) (told .serve-data .ensures) (omega arith) (framed .write-frame .ensures) (shown .put-lines .ensures))
 
 pub serve-lines-spec : {M : Type 1} → statement M
 serve-lines-spec =
