@@ -18,9 +18,8 @@ mod wire;
 use frame::Written;
 use libc::STDIN_FILENO;
 use record::BROKEN;
-
-// How many bytes the numbers of a case are.
-const NUMBERS: usize = 12;
+use record::KIND;
+use record::NUMBERS;
 
 // The most bytes that a field has.
 const FIELD_ROOM: usize = 1024;
@@ -28,35 +27,19 @@ const FIELD_ROOM: usize = 1024;
 // The most room that a case gives its output.
 const OUT_ROOM: usize = 520;
 
-// The numbers of a case.
-pub(crate) struct Numbers {
-    pub kind: u8,
-    pub room: isize,
-    pub lent: isize,
-    pub address: u8,
-    pub mark: u8,
-    pub index: u8,
-    pub value: u32,
-}
-
-fn numbers_of(b: &[u8; NUMBERS]) -> Numbers {
-    Numbers {
-        kind: b[0],
-        room: word::half_of(b[1], b[2]) as isize,
-        lent: word::half_of(b[3], b[4]) as isize,
-        address: b[5],
-        mark: b[6],
-        index: b[7],
-        value: word::word_of(b[8], b[9], b[10], b[11]),
-    }
-}
-
 // Makes the call of a case. The length is BROKEN where the kind is not known.
-fn run_kind(n: Numbers, string: &[u8], tree: &[u8], lent: &mut [u8], out: &mut [u8]) -> Written {
-    if n.kind < 0x20 {
+fn run_kind(
+    n: &[u8; NUMBERS],
+    string: &[u8],
+    tree: &[u8],
+    lent: &mut [u8],
+    out: &mut [u8],
+) -> Written {
+    let kind = n[KIND];
+    if kind < 0x20 {
         return wire::run(n, string, lent, out);
     }
-    if n.kind < 0x30 {
+    if kind < 0x30 {
         return requests::run(n, string, out);
     }
     serve::run(n, string, tree, lent, out)
@@ -65,7 +48,7 @@ fn run_kind(n: Numbers, string: &[u8], tree: &[u8], lent: &mut [u8], out: &mut [
 // The same, and its line. Returns false where the kind is not known.
 fn show_kind(
     name: &[u8],
-    n: Numbers,
+    n: &[u8; NUMBERS],
     string: &[u8],
     tree: &[u8],
     lent: &mut [u8],
@@ -76,27 +59,23 @@ fn show_kind(
 }
 
 // The same with the room and the size that the numbers give.
-fn run_in_room(name: &[u8], n: Numbers, string: &[u8], tree: &[u8], lent: &mut [u8]) -> bool {
+fn run_in_room(
+    name: &[u8],
+    n: &[u8; NUMBERS],
+    string: &[u8],
+    tree: &[u8],
+    lent: &mut [u8],
+) -> bool {
     let mut out = [0u8; OUT_ROOM];
-    let room = io::count(n.room, &out);
-    let size = io::count(n.lent, lent);
+    let room = io::count(record::room(n), &out);
+    let size = io::count(record::size(n), lent);
     show_kind(name, n, string, tree, &mut lent[..size], &mut out[..room])
 }
 
-// Runs the case that starts at a place. Returns where the next one starts, 0 where this one is broken.
-fn run_case(text: &[u8], from: usize, lent: &mut [u8]) -> usize {
-    let end = record::field_end(text, from, b'|');
-    if text.len() <= end {
-        return 0;
-    }
-    let name = &text[from..end];
-    let mut b = [0u8; NUMBERS];
-    let numbers = record::field(text, end + 1, b'|', &mut b);
-    if numbers.len != NUMBERS {
-        return 0;
-    }
+// Runs a case whose string starts at a place. Returns where the next case starts, 0 where this one is broken.
+fn run_fields(name: &[u8], n: &[u8; NUMBERS], text: &[u8], from: usize, lent: &mut [u8]) -> usize {
     let mut string = [0u8; FIELD_ROOM];
-    let string_part = record::field(text, numbers.next, b'|', &mut string);
+    let string_part = record::field(text, from, b'|', &mut string);
     let s = string_part.len;
     let mut tree = [0u8; FIELD_ROOM];
     let tree_part = record::field(text, string_part.next, b'|', &mut tree);
@@ -105,10 +84,24 @@ fn run_case(text: &[u8], from: usize, lent: &mut [u8]) -> usize {
     if lent_part.next == BROKEN {
         return 0;
     }
-    if run_in_room(name, numbers_of(&b), &string[..s], &tree[..t], lent) {
+    if run_in_room(name, n, &string[..s], &tree[..t], lent) {
         return lent_part.next;
     }
     0
+}
+
+// The same for a case that starts at a place.
+fn run_case(text: &[u8], from: usize, lent: &mut [u8]) -> usize {
+    let end = record::field_end(text, from, b'|');
+    if text.len() <= end {
+        return 0;
+    }
+    let mut n = [0u8; NUMBERS];
+    let part = record::field(text, end + 1, b'|', &mut n);
+    if part.len != NUMBERS {
+        return 0;
+    }
+    run_fields(&text[from..end], &n, text, part.next, lent)
 }
 
 // Runs all cases of a text.
