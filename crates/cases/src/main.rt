@@ -18,8 +18,11 @@ mod wire;
 use frame::Written;
 use libc::STDIN_FILENO;
 use record::BROKEN;
-use record::KIND;
-use record::NUMBERS;
+ghost use mathlib.Core.Path.{_≡_};
+ghost use lib.ListN.{length};
+
+// How many bytes the numbers of a case are.
+const NUMBERS: usize = 12;
 
 // The most bytes that a field has.
 const FIELD_ROOM: usize = 1024;
@@ -27,19 +30,35 @@ const FIELD_ROOM: usize = 1024;
 // The most room that a case gives its output.
 const OUT_ROOM: usize = 520;
 
+// The numbers of a case.
+pub(crate) struct Numbers {
+    pub kind: u8,
+    pub room: isize,
+    pub lent: isize,
+    pub address: u8,
+    pub mark: u8,
+    pub index: u8,
+    pub value: u32,
+}
+
+fn numbers_of(b: &[u8; NUMBERS]) -> Numbers {
+    Numbers {
+        kind: b[0],
+        room: word::half_of(b[1], b[2]) as isize,
+        lent: word::half_of(b[3], b[4]) as isize,
+        address: b[5],
+        mark: b[6],
+        index: b[7],
+        value: word::word_of(b[8], b[9], b[10], b[11]),
+    }
+}
+
 // Makes the call of a case. The length is BROKEN where the kind is not known.
-fn run_kind(
-    n: &[u8; NUMBERS],
-    string: &[u8],
-    tree: &[u8],
-    lent: &mut [u8],
-    out: &mut [u8],
-) -> Written {
-    let kind = n[KIND];
-    if kind < 0x20 {
+fn run_kind(n: Numbers, string: &[u8], tree: &[u8], lent: &mut [u8], out: &mut [u8]) -> Written {
+    if n.kind < 0x20 {
         return wire::run(n, string, lent, out);
     }
-    if kind < 0x30 {
+    if n.kind < 0x30 {
         return requests::run(n, string, out);
     }
     serve::run(n, string, tree, lent, out)
@@ -48,7 +67,7 @@ fn run_kind(
 // The same, and its line. Returns false where the kind is not known.
 fn show_kind(
     name: &[u8],
-    n: &[u8; NUMBERS],
+    n: Numbers,
     string: &[u8],
     tree: &[u8],
     lent: &mut [u8],
@@ -59,21 +78,15 @@ fn show_kind(
 }
 
 // The same with the room and the size that the numbers give.
-fn run_in_room(
-    name: &[u8],
-    n: &[u8; NUMBERS],
-    string: &[u8],
-    tree: &[u8],
-    lent: &mut [u8],
-) -> bool {
+fn run_in_room(name: &[u8], n: Numbers, string: &[u8], tree: &[u8], lent: &mut [u8]) -> bool {
     let mut out = [0u8; OUT_ROOM];
-    let room = io::count(record::room(n), &out);
-    let size = io::count(record::size(n), lent);
+    let room = io::count(n.room, &out);
+    let size = io::count(n.lent, lent);
     show_kind(name, n, string, tree, &mut lent[..size], &mut out[..room])
 }
 
 // Runs a case whose string starts at a place. Returns where the next case starts, 0 where this one is broken.
-fn run_fields(name: &[u8], n: &[u8; NUMBERS], text: &[u8], from: usize, lent: &mut [u8]) -> usize {
+fn run_fields(name: &[u8], n: Numbers, text: &[u8], from: usize, lent: &mut [u8]) -> usize {
     let mut string = [0u8; FIELD_ROOM];
     let string_part = record::field(text, from, b'|', &mut string);
     let s = string_part.len;
@@ -96,12 +109,12 @@ fn run_case(text: &[u8], from: usize, lent: &mut [u8]) -> usize {
     if text.len() <= end {
         return 0;
     }
-    let mut n = [0u8; NUMBERS];
-    let part = record::field(text, end + 1, b'|', &mut n);
+    let mut b = [0u8; NUMBERS];
+    let part = record::field(text, end + 1, b'|', &mut b);
     if part.len != NUMBERS {
         return 0;
     }
-    run_fields(&text[from..end], &n, text, part.next, lent)
+    run_fields(&text[from..end], numbers_of(&b), text, part.next, lent)
 }
 
 // Runs all cases of a text.
@@ -117,9 +130,16 @@ fn run_all(text: &[u8], lent: &mut [u8]) {
     }
 }
 
+// Room for the text of all cases.
+fn text_buffer() -> [u8; 131072]
+    ensures { λ r. ⌜ 131072 ≡ length r ⌝ }
+{
+    [0; 131072]
+}
+
 // A text that fills the buffer may be longer than it.
 fn main() {
-    let mut text = [0u8; 131072];
+    let mut text = text_buffer();
     let n = io::read_full(STDIN_FILENO, &mut text);
     if n == text.len() {
         show::broken();

@@ -3,20 +3,8 @@ ghost use Prim.Native.Nat.{_≤_};
 ghost use lib.ListN.{length};
 ghost use Rattle.io.specs.Counts.{Counts};
 
-// Where the numbers of a byte stand.
-pub(crate) const KIND: usize = 0;
-
-pub(crate) const ADDRESS: usize = 5;
-
-pub(crate) const MARK: usize = 6;
-
-pub(crate) const INDEX: usize = 7;
-
 // Stands for a place or a count where a field cannot be read.
 pub(crate) const BROKEN: usize = usize::MAX;
-
-// How many bytes the numbers of a case are.
-pub(crate) const NUMBERS: usize = 12;
 
 // How many bytes a field has, and where the next one starts: BROKEN where it cannot be read.
 pub(crate) struct Part {
@@ -112,17 +100,4 @@ pub(crate) fn put_word(n: u32, out: &mut [u8], at: usize) -> usize {
         (n % 256) as u8,
     ];
     frame::buffer::put_all(&bytes, out, at)
-}
-
-// The numbers of a case that are more than a byte: the room for its output, the size of what is lent, and the value.
-pub(crate) fn room(n: &[u8; NUMBERS]) -> isize {
-    word::half_of(n[1], n[2]) as isize
-}
-
-pub(crate) fn size(n: &[u8; NUMBERS]) -> isize {
-    word::half_of(n[3], n[4]) as isize
-}
-
-pub(crate) fn value(n: &[u8; NUMBERS]) -> u32 {
-    word::word_of(n[8], n[9], n[10], n[11])
 }

@@ -9,13 +9,9 @@
 //
 // A request that was read takes two lines. In 20 and 22 the bytes are the 16 of the path; in 21 and 23 the number is the op, and
 // the bytes are the path's length, the index and the value.
+use super::Numbers;
 use super::record;
-use super::record::ADDRESS;
 use super::record::BROKEN;
-use super::record::INDEX;
-use super::record::KIND;
-use super::record::MARK;
-use super::record::NUMBERS;
 use frame::Written;
 use frame::buffer;
 use protocol::PropertyIndex;
@@ -38,23 +34,16 @@ fn fields_of(asked: Asked, out: &mut [u8]) -> Written {
     }
 }
 
-pub(crate) fn run(n: &[u8; NUMBERS], string: &[u8], out: &mut [u8]) -> Written {
-    let kind = n[KIND];
-    let index = PropertyIndex(n[INDEX]);
+pub(crate) fn run(n: Numbers, string: &[u8], out: &mut [u8]) -> Written {
+    let kind = n.kind;
+    let index = PropertyIndex(n.index);
     match kind {
-        0x20 => path_of(request::read::read_serial(n[ADDRESS], string), out),
-        0x21 => fields_of(request::read::read_serial(n[ADDRESS], string), out),
+        0x20 => path_of(request::read::read_serial(n.address, string), out),
+        0x21 => fields_of(request::read::read_serial(n.address, string), out),
         0x22 => path_of(request::read::read_udp(string), out),
         0x23 => fields_of(request::read::read_udp(string), out),
-        0x24 => request::write::write_serial(
-            n[ADDRESS],
-            n[MARK],
-            string,
-            index,
-            record::value(n),
-            out,
-        ),
-        0x25 => request::write::write_udp(n[MARK], string, index, record::value(n), out),
+        0x24 => request::write::write_serial(n.address, n.mark, string, index, n.value, out),
+        0x25 => request::write::write_udp(n.mark, string, index, n.value, out),
         _ => Written {
             number: 0,
             len: BROKEN,

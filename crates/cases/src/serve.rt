@@ -8,13 +8,9 @@
 //     35  a reading             index: its place
 //
 // In 33 and 34 the bytes are those of all cells afterwards, in 35 those of the word.
+use super::Numbers;
 use super::record;
-use super::record::ADDRESS;
 use super::record::BROKEN;
-use super::record::INDEX;
-use super::record::KIND;
-use super::record::MARK;
-use super::record::NUMBERS;
 use answer::Served;
 use cells::Reading;
 use frame::Written;
@@ -28,10 +24,10 @@ fn reply_of(served: Served) -> Written {
     }
 }
 
-fn post(n: &[u8; NUMBERS], tree: &[u8], cells: &mut [u8], out: &mut [u8]) -> Written {
-    let place = word::wide(n[INDEX]);
+fn post(n: Numbers, tree: &[u8], cells: &mut [u8], out: &mut [u8]) -> Written {
+    let place = word::wide(n.index);
     Written {
-        number: cells::update::post(tree, cells, place, record::value(n), n[MARK] == 1),
+        number: cells::update::post(tree, cells, place, n.value, n.mark == 1),
         len: buffer::put_all(cells, out, 0),
     }
 }
@@ -43,8 +39,8 @@ fn restore(tree: &[u8], cells: &mut [u8], out: &mut [u8]) -> Written {
     }
 }
 
-fn reading(n: &[u8; NUMBERS], tree: &[u8], cells: &[u8], out: &mut [u8]) -> Written {
-    let place = word::wide(n[INDEX]);
+fn reading(n: Numbers, tree: &[u8], cells: &[u8], out: &mut [u8]) -> Written {
+    let place = word::wide(n.index);
     let Reading::Word(w) = cells::cell::reading(tree, cells, place) else {
         return Written {
             number: NO_READING,
@@ -58,17 +54,17 @@ fn reading(n: &[u8; NUMBERS], tree: &[u8], cells: &[u8], out: &mut [u8]) -> Writ
 }
 
 pub(crate) fn run(
-    n: &[u8; NUMBERS],
+    n: Numbers,
     string: &[u8],
     tree: &[u8],
     cells: &mut [u8],
     out: &mut [u8],
 ) -> Written {
-    let kind = n[KIND];
-    let host = n[MARK] == 1;
+    let kind = n.kind;
+    let host = n.mark == 1;
     match kind {
         0x30 => reply_of(answer::serve::serve_data(tree, cells, host, string, out)),
-        0x31 => reply_of(answer::serve::serve_serial(tree, cells, host, n[ADDRESS], string, out)),
+        0x31 => reply_of(answer::serve::serve_serial(tree, cells, host, n.address, string, out)),
         0x32 => reply_of(answer::serve::serve_udp(tree, cells, host, string, out)),
         0x33 => post(n, tree, cells, out),
         0x34 => restore(tree, cells, out),

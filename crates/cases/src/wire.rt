@@ -5,10 +5,8 @@
 //     12  a datagram checked  string: the datagram
 //     13  a datagram written  string: its data
 //     14  a delivery          address; string: the bytes; lent: the state of the stream reader
-use super::record::ADDRESS;
+use super::Numbers;
 use super::record::BROKEN;
-use super::record::KIND;
-use super::record::NUMBERS;
 use frame::Written;
 
 fn datagram(d: &[u8], out: &mut [u8]) -> Written {
@@ -26,14 +24,14 @@ fn deliver(state: &mut [u8], address: u8, bytes: &[u8], out: &mut [u8]) -> Writt
     }
 }
 
-pub(crate) fn run(n: &[u8; NUMBERS], string: &[u8], lent: &mut [u8], out: &mut [u8]) -> Written {
-    let kind = n[KIND];
+pub(crate) fn run(n: Numbers, string: &[u8], lent: &mut [u8], out: &mut [u8]) -> Written {
+    let kind = n.kind;
     match kind {
-        0x10 => frame::write::write_frame(n[ADDRESS], string, out),
-        0x11 => frame::read::read_frame(n[ADDRESS], string, out),
+        0x10 => frame::write::write_frame(n.address, string, out),
+        0x11 => frame::read::read_frame(n.address, string, out),
         0x12 => datagram(string, out),
         0x13 => frame::udp::write_datagram(string, out),
-        0x14 => deliver(lent, n[ADDRESS], string, out),
+        0x14 => deliver(lent, n.address, string, out),
         _ => Written {
             number: 0,
             len: BROKEN,
