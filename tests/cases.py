@@ -530,9 +530,9 @@ CALLS = {
     "data": (0x30, 256, ()),
     "serial": (0x31, 520, ("address",)),
     "udp": (0x32, 260, ()),
-    "post": (0x33, 520, ("index", "value", "mark")),
-    "restore": (0x34, 520, ()),
-    "reading": (0x35, 520, ("index",)),
+    "post": (0x40, 520, ("index", "value", "mark")),
+    "restore": (0x41, 520, ()),
+    "reading": (0x42, 520, ("index",)),
 }
 
 

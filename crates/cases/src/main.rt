@@ -7,8 +7,9 @@
 //
 // The numbers are 12 bytes: kind, room for the output (two bytes), size of what is lent (two bytes), address, mark, index,
 // value (four bytes), each high byte first. Lent are cells or a stream state; where the field is empty, they are as the line
-// before left them. The kinds stand in wire.rt, requests.rt and serve.rt. What a kind does not need is 0 or empty.
+// before left them. The kinds stand in wire.rt, requests.rt, serve.rt and readings.rt. What a kind does not need is 0 or empty.
 // A line that is not of this form, or whose kind is not known, prints `broken` and is the last.
+mod readings;
 mod record;
 mod requests;
 mod serve;
@@ -61,7 +62,10 @@ fn run_kind(n: Numbers, string: &[u8], tree: &[u8], lent: &mut [u8], out: &mut [
     if n.kind < 0x30 {
         return requests::run(n, string, out);
     }
-    serve::run(n, string, tree, lent, out)
+    if n.kind < 0x40 {
+        return serve::run(n, string, tree, lent, out);
+    }
+    readings::run(n, tree, lent, out)
 }
 
 // The same, and its line. Returns false where the kind is not known.
