@@ -11,7 +11,7 @@ A line of stdin has five fields with `|` between them: the name of the case, the
 
 The numbers are 12 bytes: kind, room for the output (two bytes), size of what is lent (two bytes), address, mark, index, value
 (four bytes), each high byte first. Lent are cells or a stream state; where the field is empty, they are as the line before left
-them. `CALLS` has the kinds, and crates/cases/src says what each does with its numbers. What a kind does not need is 0 or empty.
+them. `CALLS` has the kinds, and crates/calls/src says what each does with its numbers. What a kind does not need is 0 or empty.
 A case that has two lines of stdout has two of stdin.
 """
 import pathlib

@@ -7,16 +7,12 @@
 //
 // The numbers are 12 bytes: kind, room for the output (two bytes), size of what is lent (two bytes), address, mark, index,
 // value (four bytes), each high byte first. Lent are cells or a stream state; where the field is empty, they are as the line
-// before left them. The kinds stand in wire.rt, requests.rt, serve.rt and readings.rt. What a kind does not need is 0 or empty.
+// before left them. The kinds stand in the files of crates/calls/src. What a kind does not need is 0 or empty.
 // A line that is not of this form, or whose kind is not known, prints `broken` and is the last.
-mod readings;
 mod record;
-mod requests;
-mod serve;
 mod show;
-mod wire;
 
-use frame::Written;
+use calls::Numbers;
 use libc::STDIN_FILENO;
 use record::BROKEN;
 ghost use mathlib.Core.Path.{_≡_};
@@ -31,17 +27,7 @@ const FIELD_ROOM: usize = 1024;
 // The most room that a case gives its output.
 const OUT_ROOM: usize = 520;
 
-// The numbers of a case.
-pub(crate) struct Numbers {
-    pub kind: u8,
-    pub room: isize,
-    pub lent: isize,
-    pub address: u8,
-    pub mark: u8,
-    pub index: u8,
-    pub value: u32,
-}
-
+// The numbers of a case from their bytes.
 fn numbers_of(b: &[u8; NUMBERS]) -> Numbers {
     Numbers {
         kind: b[0],
@@ -54,21 +40,7 @@ fn numbers_of(b: &[u8; NUMBERS]) -> Numbers {
     }
 }
 
-// Makes the call of a case. The length is BROKEN where the kind is not known.
-fn run_kind(n: Numbers, string: &[u8], tree: &[u8], lent: &mut [u8], out: &mut [u8]) -> Written {
-    if n.kind < 0x20 {
-        return wire::run(n, string, lent, out);
-    }
-    if n.kind < 0x30 {
-        return requests::run(n, string, out);
-    }
-    if n.kind < 0x40 {
-        return serve::run(n, string, tree, lent, out);
-    }
-    readings::run(n, tree, lent, out)
-}
-
-// The same, and its line. Returns false where the kind is not known.
+// Makes the call of a case, and shows its line. Returns false where the kind is not known.
 fn show_kind(
     name: &[u8],
     n: Numbers,
@@ -77,7 +49,7 @@ fn show_kind(
     lent: &mut [u8],
     out: &mut [u8],
 ) -> bool {
-    let written = run_kind(n, string, tree, lent, out);
+    let written = calls::run(n, string, tree, lent, out);
     show::front(name, written.number, out, written.len)
 }
 

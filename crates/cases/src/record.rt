@@ -90,14 +90,3 @@ pub(crate) fn field(text: &[u8], from: usize, ending: u8, out: &mut [u8]) -> Par
     }
     Part { len, next: end + 1 }
 }
-
-// A number of 32 bits, put at a place of an output, the high byte first. Returns the next place.
-pub(crate) fn put_word(n: u32, out: &mut [u8], at: usize) -> usize {
-    let bytes = [
-        (n / 16777216 % 256) as u8,
-        (n / 65536 % 256) as u8,
-        (n / 256 % 256) as u8,
-        (n % 256) as u8,
-    ];
-    frame::buffer::put_all(&bytes, out, at)
-}

@@ -6,8 +6,7 @@
 //
 // In 40 and 41 the bytes are those of all cells afterwards, in 42 those of the word.
 use super::Numbers;
-use super::record;
-use super::record::BROKEN;
+use super::UNKNOWN;
 use cells::Reading;
 use frame::Written;
 use frame::buffer;
@@ -38,7 +37,7 @@ fn reading(n: Numbers, tree: &[u8], cells: &[u8], out: &mut [u8]) -> Written {
     };
     Written {
         number: 0,
-        len: record::put_word(w, out, 0),
+        len: super::put_word(w, out, 0),
     }
 }
 
@@ -50,7 +49,7 @@ pub(crate) fn run(n: Numbers, tree: &[u8], cells: &mut [u8], out: &mut [u8]) -> 
         0x42 => reading(n, tree, cells, out),
         _ => Written {
             number: 0,
-            len: BROKEN,
+            len: UNKNOWN,
         },
     }
 }

@@ -6,7 +6,7 @@
 //     13  a datagram written  string: its data
 //     14  a delivery          address; string: the bytes; lent: the state of the stream reader
 use super::Numbers;
-use super::record::BROKEN;
+use super::UNKNOWN;
 use frame::Written;
 
 fn datagram(d: &[u8], out: &mut [u8]) -> Written {
@@ -34,7 +34,7 @@ pub(crate) fn run(n: Numbers, string: &[u8], lent: &mut [u8], out: &mut [u8]) ->
         0x14 => deliver(lent, n.address, string, out),
         _ => Written {
             number: 0,
-            len: BROKEN,
+            len: UNKNOWN,
         },
     }
 }

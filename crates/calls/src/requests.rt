@@ -10,8 +10,7 @@
 // A request that was read takes two lines. In 20 and 22 the bytes are the 16 of the path; in 21 and 23 the number is the op, and
 // the bytes are the path's length, the index and the value.
 use super::Numbers;
-use super::record;
-use super::record::BROKEN;
+use super::UNKNOWN;
 use frame::Written;
 use frame::buffer;
 use protocol::PropertyIndex;
@@ -30,7 +29,7 @@ fn fields_of(asked: Asked, out: &mut [u8]) -> Written {
     let at = buffer::put_all(&[(asked.len % 256) as u8, index.0], out, 0);
     Written {
         number: asked.op,
-        len: record::put_word(asked.value, out, at),
+        len: super::put_word(asked.value, out, at),
     }
 }
 
@@ -46,7 +45,7 @@ pub(crate) fn run(n: Numbers, string: &[u8], out: &mut [u8]) -> Written {
         0x25 => request::write::write_udp(n.mark, string, index, n.value, out),
         _ => Written {
             number: 0,
-            len: BROKEN,
+            len: UNKNOWN,
         },
     }
 }

@@ -4,7 +4,7 @@
 //     31  a serial string  address, mark: the same; string
 //     32  a datagram       mark: the same; string: the datagram
 use super::Numbers;
-use super::record::BROKEN;
+use super::UNKNOWN;
 use answer::Served;
 use frame::Written;
 
@@ -30,7 +30,7 @@ pub(crate) fn run(
         0x32 => reply_of(answer::serve::serve_udp(tree, cells, host, string, out)),
         _ => Written {
             number: 0,
-            len: BROKEN,
+            len: UNKNOWN,
         },
     }
 }

@@ -1,0 +1,46 @@
+// A call of the library by its kind, for the program `cases`: numbers and slices in, a number and the first bytes of an output out.
+mod readings;
+mod requests;
+mod serve;
+mod wire;
+
+use frame::Written;
+
+// Stands for the length where a kind is not known.
+pub const UNKNOWN: usize = usize::MAX;
+
+// The numbers of a call: its kind, the room for its output and the size of what is lent, and its arguments.
+pub struct Numbers {
+    pub kind: u8,
+    pub room: isize,
+    pub lent: isize,
+    pub address: u8,
+    pub mark: u8,
+    pub index: u8,
+    pub value: u32,
+}
+
+// A number of 32 bits, put at a place of an output, the high byte first. Returns the next place.
+pub(crate) fn put_word(n: u32, out: &mut [u8], at: usize) -> usize {
+    let bytes = [
+        (n / 16777216 % 256) as u8,
+        (n / 65536 % 256) as u8,
+        (n / 256 % 256) as u8,
+        (n % 256) as u8,
+    ];
+    frame::buffer::put_all(&bytes, out, at)
+}
+
+// Makes the call of a kind.
+pub fn run(n: Numbers, string: &[u8], tree: &[u8], lent: &mut [u8], out: &mut [u8]) -> Written {
+    if n.kind < 0x20 {
+        return wire::run(n, string, lent, out);
+    }
+    if n.kind < 0x30 {
+        return requests::run(n, string, out);
+    }
+    if n.kind < 0x40 {
+        return serve::run(n, string, tree, lent, out);
+    }
+    readings::run(n, tree, lent, out)
+}
