@@ -440,7 +440,7 @@ SAYS = {
 
 
 def variant(call):
-    """A call without its suffix, and which suffix it has: too little room, cells or a state that are unsound, host functions off."""
+    """A call without its suffix, and which it has: too little room, cells or a state that are unsound, host functions off."""
     suffixes = ("_no_room", "_unsound", "_off")
     has = [call.endswith(s) for s in suffixes]
     return call[: -len(suffixes[has.index(True)])] if any(has) else call, *has
@@ -558,7 +558,9 @@ def records(name, call, args):
         tree, lent = tree_of(base).form(), bytes(24) if unsound else tree_of(base).cell_bytes()
     for k, (title, step, values) in enumerate(steps(name, base, args)):
         kind, room, names = CALLS[step]
-        n = {"address": 0, "mark": 0 if off else 1, "index": 0, "value": 0, **dict(zip(names, (v for v in values if isinstance(v, int))))}
+        host = int(step in ("data", "serial", "udp") and not off)
+        n = {"address": 0, "mark": host, "index": 0, "value": 0}
+        n.update(zip(names, (v for v in values if isinstance(v, int))))
         numbers = bytes([kind]) + (room - no_room).to_bytes(2, "big") + len(lent).to_bytes(2, "big")
         numbers += bytes([n["address"], n["mark"], n["index"]]) + n["value"].to_bytes(4, "big")
         string = b"".join(v for v in values if isinstance(v, bytes))

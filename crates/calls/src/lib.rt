@@ -31,7 +31,7 @@ pub(crate) fn put_word(n: u32, out: &mut [u8], at: usize) -> usize {
     frame::buffer::put_all(&bytes, out, at)
 }
 
-// Makes the call of a kind.
+// Makes the call of a kind. Each module says which numbers and slices its kinds use.
 pub fn run(n: Numbers, string: &[u8], tree: &[u8], lent: &mut [u8], out: &mut [u8]) -> Written {
     if n.kind < 0x20 {
         return wire::run(n, string, lent, out);

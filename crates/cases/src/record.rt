@@ -1,6 +1,5 @@
 // The fields of a case, in the form that is described in main.rt.
 ghost use Prim.Native.Nat.{_≤_};
-ghost use lib.ListN.{length};
 ghost use Rattle.io.specs.Counts.{Counts};
 
 // Stands for a place or a count where a field cannot be read.
