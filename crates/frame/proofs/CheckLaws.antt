@@ -235,11 +235,34 @@ judged-by : (a : ℕ) (t : Tally) (p q u v : Bool) → ltb (t .count) 3 ≡ p �
 unfolding judged
 judged-by a t p q u v e f g h = rw (e, f, g, h)
 
-pub judged-passed : {a : ℕ} {t : Tally} {w : ℕ} → 3 ≤ t .count → t .count ≤ maxContent → t .sum ≡ 255 → t .first ≡ a → w ≡ length (doubled a)
-    → record { number = done; len = t .count - 2; start = 2 + w } ≡ judged a t
-judged-passed {a} {t} p q u v e =
-    ap (λ w. record { number = done; len = t .count - 2; start = 2 + w }) e
-    ∙ sym (judged-by a t false false true true (le-ltb (t .count) 3 p) (le-ltb maxContent (t .count) q) (eq-eqb (t .sum) 255 u) (eq-eqb (t .first) a v))
+-- The same, test by test.
+module _ (a : ℕ) (t : Tally) where
+  pub judged-short : t .count < 3 → failed tooShort ≡ judged a t
+  judged-short p =
+      sym
+      (judged-by a t true (ltb maxContent (t .count)) (eqb (t .sum) 255) (eqb (t .first) a) (lt-ltb (t .count) 3 p) refl refl refl)
+
+  pub judged-long : 3 ≤ t .count → maxContent < t .count → failed tooLong ≡ judged a t
+  judged-long p q =
+      sym
+      (judged-by a t false true (eqb (t .sum) 255) (eqb (t .first) a) (le-ltb (t .count) 3 p) (lt-ltb maxContent (t .count) q) refl refl)
+
+  module _ (p : 3 ≤ t .count) (q : t .count ≤ maxContent) where
+    in-bounds : (u v : Bool) → eqb (t .sum) 255 ≡ u → eqb (t .first) a ≡ v
+        → judged a t ≡ cond u (cond v (passed a (t .count)) (failed otherAddress)) (failed badChecksum)
+    in-bounds u v e f = judged-by a t false false u v (le-ltb (t .count) 3 p) (le-ltb maxContent (t .count) q) e f
+
+    pub judged-bad-sum : (t .sum ≡ 255 → ⊥) → failed badChecksum ≡ judged a t
+    judged-bad-sum h = sym (in-bounds false (eqb (t .first) a) (ne-eqb (t .sum) 255 h) refl)
+
+    pub judged-other : t .sum ≡ 255 → (t .first ≡ a → ⊥) → failed otherAddress ≡ judged a t
+    judged-other e h = sym (in-bounds true false (eq-eqb (t .sum) 255 e) (ne-eqb (t .first) a h))
+
+    pub judged-passed : {w : ℕ} → t .sum ≡ 255 → t .first ≡ a → w ≡ length (doubled a)
+        → record { number = done; len = t .count - 2; start = 2 + w } ≡ judged a t
+    judged-passed e f g =
+        ap (λ w. record { number = done; len = t .count - 2; start = 2 + w }) g
+        ∙ sym (in-bounds true true (eq-eqb (t .sum) 255 e) (eq-eqb (t .first) a f))
 
 -- A string whose content passes every test: its data stands where `passed` says.
 checks-passed : (a : ℕ) (s c : List ℕ) → readFrame a s ≡ received (dataIn c) → 3 ≤ length c → Checks a s (passed a (length c))

@@ -1,39 +1,36 @@
 -- `frame::read::judge` meets its contract. Assumes nothing.
 use native.Mathlib.Omega.{arith}
-use borrow.Author.Tests.{lt-ltb, le-ltb, eq-eqb, ne-eqb}
 use borrow.Author.Needs.{needs}
 use Rattle.protocol.proofs.FrameLaws.{length-doubled}
-use Rattle.frame.specs.Steps.{judged}
-use Rattle.frame.proofs.CheckLaws.{judged-passed}
+use Rattle.frame.proofs.CheckLaws.{judged-short, judged-long, judged-bad-sum, judged-other, judged-passed}
 use Rattle.frame.proofs.read.judge.Statement.{statement}
 use Rattle.frame.proofs.read.judge.Tie as tie
 
 returns : tie.Need-returns
-unfolding judged
-returns c = simp (lt-ltb _ _ (c .if1 .taken))
+returns c =
+    let args = c .before .before .args in
+    judged-short (args .address) (args .t) (c .if1 .taken)
 
 returns-2 : tie.Need-returns-2
-unfolding judged
-returns-2 c = simp (le-ltb _ _ (c .before .before .if1 .left), lt-ltb _ _ (c .if2 .taken))
+returns-2 c =
+    let else1 = c .before .before in
+    let args = else1 .before .before .args in
+    judged-long (args .address) (args .t) (else1 .if1 .left) (c .if2 .taken)
 
 returns-3 : tie.Need-returns-3
-unfolding judged
 returns-3 c =
-    simp (
-      le-ltb _ _ (c .before .before .before .before .if1 .left),
-      le-ltb _ _ (c .before .before .if2 .left),
-      ne-eqb _ _ (c .if3 .taken),
-    )
+    let else2 = c .before .before in
+    let else1 = else2 .before .before in
+    let args = else1 .before .before .args in
+    judged-bad-sum (args .address) (args .t) (else1 .if1 .left) (else2 .if2 .left) (c .if3 .taken)
 
 returns-4 : tie.Need-returns-4
-unfolding judged
 returns-4 c =
-    simp (
-      le-ltb _ _ (c .before .before .before .before .before .before .if1 .left),
-      le-ltb _ _ (c .before .before .before .before .if2 .left),
-      eq-eqb _ _ (c .before .before .if3 .left),
-      ne-eqb _ _ (c .if4 .taken),
-    )
+    let else3 = c .before .before in
+    let else2 = else3 .before .before in
+    let else1 = else2 .before .before in
+    let args = else1 .before .before .args in
+    judged-other (args .address) (args .t) (else1 .if1 .left) (else2 .if2 .left) (else3 .if3 .left) (c .if4 .taken)
 
 sub-r : tie.Need-sub-r
 sub-r c = search needs
@@ -50,7 +47,8 @@ returns-5 c =
     let else3 = else4 .before .before in
     let else2 = else3 .before .before in
     let else1 = else2 .before .before in
-    judged-passed (else1 .if1 .left) (else2 .if2 .left) (else3 .if3 .left) (else4 .if4 .left) (c .width .ensures)
+    let args = else1 .before .before .args in
+    judged-passed (args .address) (args .t) (else1 .if1 .left) (else2 .if2 .left) (else3 .if3 .left) (else4 .if4 .left) (c .width .ensures)
 
 pub judge-spec : {M : Type 1} → statement M
 judge-spec =
