@@ -344,7 +344,7 @@ CASES = [
     ("write_udp/8", "write_udp_no_room", 9, b"", 0, 0),
     ("write_udp/10", "write_udp", 6, b"", 0, 0),
     ("write_udp/11", "write_udp", 3, H("0101"), 1, 5),
-    # 01, Serving: every number of each road.
+    # 01, Serving: every number of each transport.
     ("serve_data/0", "data", H("B400")),
     ("serve_data/0 op 1", "data", H("B40101")),
     ("serve_data/0 op 2", "data", H("B402010202")),

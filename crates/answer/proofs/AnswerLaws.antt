@@ -56,13 +56,13 @@ pub refuses : {n code size : ℕ} {out out′ : List ℕ} → code ≡ refusalCo
 refuses {size = size} {out = out} {out′ = out′} e p =
     record { number-is = refl; reply = subst (λ b. Put 0 (b ∷ []) out size out′) e p; acts = refl }
 
-module _ {cs : List Cell} {cells : List ℕ} (same : cells ≡ cellsForm cs) where
+module _ {cs : List Cell} {cells : List ℕ} (cells-are : cells ≡ cellsForm cs) where
   pub refused : {number n size action : ℕ} {out out′ : List ℕ} → Refuses number out n size action out′
       → Answers (refuse cs number) out n size action cells out′
-  refused r = record { number = r .number-is; reply = r .reply; acts = r .acts; cells = same }
+  refused r = record { number = r .number-is; reply = r .reply; acts = r .acts; cells = cells-are }
 
   pub replied : {size : ℕ} {bs out out′ : List ℕ} → Put 0 bs out size out′ → Answers (plain cs done bs) out done size 255 cells out′
-  replied p = record { number = refl; reply = p; acts = refl; cells = same }
+  replied p = record { number = refl; reply = p; acts = refl; cells = cells-are }
 
 -- One answer is another.
 pub answers-as : {a b : Answer} {n size action : ℕ} {out cells out′ : List ℕ} → b ≡ a → Answers a out n size action cells out′

@@ -21,47 +21,10 @@ use Rattle.request.specs.declared.Asked as declared
 use Rattle.request.specs.Asked.{padded, AskedIs}
 use Rattle.answer.specs.Steps.{askedIn, Asks}
 
--- A reading of data: with 0 its request has one of the ops, and its other numbers come after 9.
-pub record Told (a : Asked) : Type 0 where
-  pub op : a .number ≡ done → a .request .op ≤ opWriteExtended
-  pub late : (a .number ≡ done → ⊥) → (disabled < a .number) × (a .number ≤ badParameter)
-
-told-declined : (n : ℕ) → disabled < n → n ≤ badParameter → Told (declined n)
-told-declined n h k = record { op = λ e. absurd (omega (arith, h, e)); late = λ u. (h, k) }
-
-told-asked : (r : Request) → r .op ≤ opWriteExtended → Told (askedIf r)
-unfolding askedIf
-told-asked r h =
-    if-both Told (fits r) (record { op = λ e. h; late = λ u. absurd (u refl) }) (told-declined badParameter (omega arith) (omega arith))
-
-module _ (op : ℕ) (h : op ≤ opWriteExtended) where
-  told-indexed : (value : ℕ) (bs : List ℕ) → Told (readIndexed op value bs)
-  unfolding readIndexed
-  told-indexed value bs =
-      told-asked (record { op = op; path = take (length bs - 1) bs; index = getD bs (length bs - 1) 0; value = value }) h
-
-  told-shape : (bs : List ℕ) → Told (readShape op bs)
-  unfolding readShape readValued
-  told-shape bs =
-      if-both Told (asksValue op)
-      (if-both Told (eqb (length (drop (suc (beforeZero bs)) bs)) 4)
-      (told-indexed _ (take (beforeZero bs) bs))
-      (told-declined badParameter (omega arith) (omega arith)))
-      (if-both Told (asksIndex op) (told-indexed 0 bs) (told-asked (record { op = op; path = bs; index = 0; value = 0 }) h))
-
-pub readRequest-told : (bs : List ℕ) → Told (readRequest bs)
-unfolding readRequest
-readRequest-told [] = told-declined badParameter (omega arith) (omega arith)
-readRequest-told (c ∷ []) =
-    if-both Told (eqb c PDI) (told-declined badParameter (omega arith) (omega arith)) (told-declined unknownCommand (omega arith) (omega arith))
-readRequest-told (c ∷ op ∷ bs) =
-    if-case Told (eqb c PDI && leb op opWriteExtended)
-    (λ e. told-shape op (leb-true op opWriteExtended (and-right (eqb c PDI) _ e)) bs)
-    (λ e. told-declined unknownCommand (omega arith) (omega arith))
-
+-- Data that is read with 0 is an allowed request.
 readRequest-allowed : (bs : List ℕ) → readRequest bs .number ≡ done → Allowed (readRequest bs .request)
 readRequest-allowed bs h =
-    allowed (readRequest bs .request) (record { op = readRequest-told bs .op h; rest = readRequest-fits bs .fit h })
+    allowed (readRequest bs .request) (record { op = readRequest-fits bs .op h; rest = readRequest-fits bs .fit h })
 
 -- A string or datagram: its number comes before 9.
 pub record Early (r : Received) : Type 0 where
@@ -153,8 +116,8 @@ module _ (r : Received) (early : Early r) {x : declared.Asked} (h : AskedIs (rea
       let p : 0 < x .number = ltb-true 0 (x .number) (and-left (ltb 0 (x .number)) _ both) in
       let q : x .number < disabled = ltb-true (x .number) disabled (and-right (ltb 0 (x .number)) _ both) in
       let bad : r .number ≡ done → ⊥ = λ e.
-      let same : x .number ≡ readRequest (r .payload) .number = h .number ∙ ap (λ a. a .number) (payload-done e) in
-      omega (arith, p, q, same, readRequest-told (r .payload) .late (λ d. omega (arith, p, same, d)) .0) in
+      let number-is : x .number ≡ readRequest (r .payload) .number = h .number ∙ ap (λ a. a .number) (payload-done e) in
+      omega (arith, p, q, number-is, readRequest-fits (r .payload) .late (λ d. omega (arith, p, number-is, d)) .0) in
       record { number = h .number ∙ ap (λ a. a .number) (payload-bad bad); bad = bad }
 
   pub row-of-data : {t : Bool} → t ≡ (ltb 0 (x .number) && ltb (x .number) disabled) → t ≡ false → Read r x
@@ -174,9 +137,9 @@ module _ (r : Received) (early : Early r) {x : declared.Asked} (h : AskedIs (rea
             asked = asks (r .payload) is (h .len ∙ ap (λ a. length (a .request .path)) (payload-done good));
           }
       go false e =
-          let same : x .number ≡ r .number = h .number ∙ ap (λ a. a .number) (payload-bad (eqb-false (r .number) done e)) in
-          let some-row : 0 < x .number = omega (arith, same, eqb-false (r .number) done e) in
-          absurd (omega (arith, same, early .early, late some-row))
+          let number-is : x .number ≡ r .number = h .number ∙ ap (λ a. a .number) (payload-bad (eqb-false (r .number) done e)) in
+          let some-row : 0 < x .number = omega (arith, number-is, eqb-false (r .number) done e) in
+          absurd (omega (arith, number-is, early .early, late some-row))
 
 -- Data of a good size, and of another.
 pub sized-done : (bs : List ℕ) → sizeNumber (length bs) ≡ done → ifSized bs (received bs) ≡ received bs

@@ -54,13 +54,13 @@ module _ (bs old : List ℕ) (from : ℕ) (room : from + 2 * length bs ≤ lengt
             (puts (omega arith) (w .put) p);
       }
 
-  pub same : {out : List ℕ} {at i : ℕ} → Writing bs old from out at i → length out ≡ length old
-  same {i = i} w =
+  pub length-kept : {out : List ℕ} {at i : ℕ} → Writing bs old from out at i → length out ≡ length old
+  length-kept {i = i} w =
       ap length (w .put .bytes)
       ∙ length-put old from (hex (take i bs)) (omega (arith, room, length-hex (take i bs), length-take i bs))
 
   pub room-left : {out : List ℕ} {at i : ℕ} → Writing bs old from out at i → i < length bs → at + 2 ≤ length out
-  room-left {i = i} w h = omega (arith, room, same w, w .put .next, length-hex (take i bs), length-take i bs)
+  room-left {i = i} w h = omega (arith, room, length-kept w, w .put .next, length-hex (take i bs), length-take i bs)
 
   pub ends : {out : List ℕ} {at i : ℕ} → Writing bs old from out at i → length bs ≤ i → Put from (hex bs) old at out
   ends {out} {at} {i} w h = subst (λ l. Put from (hex l) old at out) (take-all i bs h) (w .put)

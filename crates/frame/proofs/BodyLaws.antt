@@ -42,8 +42,8 @@ module _ (bs old : List ℕ) (from first : ℕ) (room : from + 2 * length bs ≤
             };
       }
 
-  pub same : {out : List ℕ} {at total i : ℕ} → Writing bs old from first out at total i → length out ≡ length old
-  same {i = i} w =
+  pub length-kept : {out : List ℕ} {at total i : ℕ} → Writing bs old from first out at total i → length out ≡ length old
+  length-kept {i = i} w =
       ap length (w .body .put .bytes)
       ∙ length-put old from (double (take i bs))
       (omega (arith, room, length-double (take i bs), length-take i bs))
@@ -51,7 +51,7 @@ module _ (bs old : List ℕ) (from first : ℕ) (room : from + 2 * length bs ≤
   pub room-left : {out : List ℕ} {at total i : ℕ} → Writing bs old from first out at total i → i < length bs
       → at + 2 ≤ length out
   room-left {i = i} w h =
-      omega (arith, room, same w, w .body .put .next, length-double (take i bs), length-take i bs)
+      omega (arith, room, length-kept w, w .body .put .next, length-double (take i bs), length-take i bs)
 
   pub ends : {out : List ℕ} {at total i : ℕ} → Writing bs old from first out at total i → length bs ≤ i
       → PutBody from first bs old at total out

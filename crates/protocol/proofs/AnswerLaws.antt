@@ -20,13 +20,14 @@ use Rattle.protocol.proofs.TestLaws.{and-left, and-right, and-both, if-
 use Rattle.protocol.proofs.RequestLaws.{path-most, value-fits}
 use Rattle.protocol.proofs.RuleLaws.{not-readable}
 
--- Data that is read: with 0 the request fits the table, and any other number is row 10 or 11.
+-- Data that is read: with 0 the request has one of the ops and fits the table, and any other number is row 10 or 11.
 pub record Fits (a : Asked) : Type 0 where
+  pub op : a .number ≡ done → a .request .op ≤ opWriteExtended
   pub fit : a .number ≡ done → fits (a .request) ≡ true
   pub late : (a .number ≡ done → ⊥) → (disabled < a .number) × (a .number ≤ badParameter)
 
 declined-fits : (n : ℕ) → disabled < n → n ≤ badParameter → Fits (declined n)
-declined-fits n h k = record { fit = λ e. absurd (omega (arith, e)); late = λ u. (h, k) }
+declined-fits n h k = record { op = λ e. absurd (omega (arith, e)); fit = λ e. absurd (omega (arith, e)); late = λ u. (h, k) }
 
 unknown-fits : Fits (declined unknownCommand)
 unknown-fits = declined-fits unknownCommand (omega arith) (omega arith)
@@ -34,32 +35,36 @@ unknown-fits = declined-fits unknownCommand (omega arith) (omega arith)
 misfit-fits : Fits (declined badParameter)
 misfit-fits = declined-fits badParameter (omega arith) (omega arith)
 
-askedIf-fits : (r : Request) → Fits (askedIf r)
+askedIf-fits : (r : Request) → r .op ≤ opWriteExtended → Fits (askedIf r)
 unfolding askedIf
-askedIf-fits r = if-case Fits (fits r) (λ e. record { fit = λ h. e; late = λ u. absurd (u refl) }) (λ e. misfit-fits)
+askedIf-fits r known =
+    if-case Fits (fits r) (λ e. record { op = λ h. known; fit = λ h. e; late = λ u. absurd (u refl) }) (λ e. misfit-fits)
 
-readIndexed-fits : (op v : ℕ) (bs : List ℕ) → Fits (readIndexed op v bs)
-unfolding readIndexed
-readIndexed-fits op v bs = askedIf-fits _
+module _ (op : ℕ) (known : op ≤ opWriteExtended) where
+  readIndexed-fits : (v : ℕ) (bs : List ℕ) → Fits (readIndexed op v bs)
+  unfolding readIndexed
+  readIndexed-fits v bs = askedIf-fits _ known
 
-readValued-fits : (op : ℕ) (bs : List ℕ) → Fits (readValued op bs)
-unfolding readValued
-readValued-fits op bs =
-    if-both Fits (eqb (length (drop (suc (beforeZero bs)) bs)) 4) (readIndexed-fits op _ _) misfit-fits
+  readValued-fits : (bs : List ℕ) → Fits (readValued op bs)
+  unfolding readValued
+  readValued-fits bs =
+      if-both Fits (eqb (length (drop (suc (beforeZero bs)) bs)) 4) (readIndexed-fits _ _) misfit-fits
 
-readShape-fits : (op : ℕ) (bs : List ℕ) → Fits (readShape op bs)
-unfolding readShape
-readShape-fits op bs =
-    if-both Fits (asksValue op)
-    (readValued-fits op bs)
-    (if-both Fits (asksIndex op) (readIndexed-fits op 0 bs) (askedIf-fits _))
+  readShape-fits : (bs : List ℕ) → Fits (readShape op bs)
+  unfolding readShape
+  readShape-fits bs =
+      if-both Fits (asksValue op)
+      (readValued-fits bs)
+      (if-both Fits (asksIndex op) (readIndexed-fits 0 bs) (askedIf-fits _ known))
 
 pub readRequest-fits : (bs : List ℕ) → Fits (readRequest bs)
 unfolding readRequest
 readRequest-fits [] = misfit-fits
 readRequest-fits (c ∷ []) = if-both Fits (eqb c PDI) misfit-fits unknown-fits
 readRequest-fits (c ∷ op ∷ bs) =
-    if-both Fits (eqb c PDI && leb op opWriteExtended) (readShape-fits op bs) unknown-fits
+    if-case Fits (eqb c PDI && leb op opWriteExtended)
+    (λ e. readShape-fits op (leb-true op opWriteExtended (and-right (eqb c PDI) _ e)) bs)
+    (λ e. unknown-fits)
 
 -- The lengths of a reply's parts.
 length-text : (s : List ℕ) → length (text s) ≡ length s + 1
@@ -404,7 +409,7 @@ others-stay t cs host bs k h = go (changes t cs host bs)
     go (one-written place value s e) =
         ap (λ l. cellIn l k) e
         ∙ getD-set-other cs place k (stored (cellIn cs place) value) _
-        (λ same. h value (subst (λ p. Saves t bs p value) (sym same) s))
+        (λ here. h value (subst (λ p. Saves t bs p value) (sym here) s))
 
 -- Refusals 9 to 13 change no cell.
 pub refusal-keeps : (t : Tree) (cs : List Cell) (host : Bool) (bs : List ℕ) → (answer t cs host bs .number ≡ done → ⊥)

@@ -87,12 +87,12 @@ puts {at} {r} {r′} {ys} {zs} {old} {mid} {new} h p q =
 pub record Filling (bs old : List ℕ) (at : ℕ) (out : List ℕ) (next i : ℕ) : Type 0 where
   pub within : i ≤ length bs
   pub room : i ≤ length old - at
-  pub same : length out ≡ length old
+  pub same-length : length out ≡ length old
   pub put : Put at (take i bs) old next out
 
 module _ (bs old : List ℕ) (at : ℕ) where
   pub fill-begins : Filling bs old at old at 0
-  fill-begins = record { within = omega arith; room = omega arith; same = refl; put = put-nil at old }
+  fill-begins = record { within = omega arith; room = omega arith; same-length = refl; put = put-nil at old }
 
   fill-next : {out : List ℕ} {next i : ℕ} → Filling bs old at out next i → next ≡ at + i
   fill-next {i = i} f = f .put .next ∙ ap (λ n. at + n) (length-take-le i bs (f .within))
@@ -102,12 +102,12 @@ module _ (bs old : List ℕ) (at : ℕ) where
   fill-more {out} {out′} {next} {next′} {i} f h l p =
       record {
         within = omega arith;
-        room = omega (arith, fill-next f, f .same, l);
-        same = ap length (p .bytes) ∙ length-put out next (getD bs i 0 ∷ []) (omega (arith, l)) ∙ f .same;
+        room = omega (arith, fill-next f, f .same-length, l);
+        same-length = ap length (p .bytes) ∙ length-put out next (getD bs i 0 ∷ []) (omega (arith, l)) ∙ f .same-length;
         put =
             subst (λ l. Put at l old next′ out′)
             (sym (ap (λ n. take n bs) (add-one i) ∙ take-suc bs i 0 h))
-            (puts (omega (arith, fill-next f, f .same, l)) (f .put) p);
+            (puts (omega (arith, fill-next f, f .same-length, l)) (f .put) p);
       }
 
   -- It ends where there is no room, or with the last byte.
@@ -145,8 +145,8 @@ fits-join {at} {r} {r′} {old} {mid} {new} ys zs p q = go (decLe (at + length y
     full : length old ≤ at + length ys → at ≤ length old → Put at (fitting at (ys ++ zs) old) old r′ new
     full h k =
         let size : length (fitting at ys old) ≡ length old - at = length-take-le (length old - at) ys (omega arith) in
-        let same : length mid ≡ length old = ap length (p .bytes) ∙ length-put old at (fitting at ys old) (omega (arith, size)) in
-        let none : fitting r zs mid ≡ [] = ap (λ n. take n zs) (no-room (length mid) r (omega (arith, p .next, size, same))) in
+        let same-size : length mid ≡ length old = ap length (p .bytes) ∙ length-put old at (fitting at ys old) (omega (arith, size)) in
+        let none : fitting r zs mid ≡ [] = ap (λ n. take n zs) (no-room (length mid) r (omega (arith, p .next, size, same-size))) in
         let both : Put at (fitting at ys old ++ []) old r′ new =
         puts k p (subst (λ l. Put r l mid r′ new) none q) in
         subst (λ l. Put at l old r′ new) (append-nil (fitting at ys old) ∙ sym (take-append-le (length old - at) ys zs (omega (arith, h)))) both
@@ -163,8 +163,8 @@ fits-join {at} {r} {r′} {old} {mid} {new} ys zs p q = go (decLe (at + length y
     whole : at + length ys ≤ length old → Put at (fitting at (ys ++ zs) old) old r′ new
     whole h =
         let first : Put at ys old r mid = put-fits h p in
-        let same : length mid ≡ length old = ap length (first .bytes) ∙ length-put old at ys h in
-        let room : length mid - r ≡ length old - at - length ys = omega (arith, first .next, same) in
+        let same-size : length mid ≡ length old = ap length (first .bytes) ∙ length-put old at ys h in
+        let room : length mid - r ≡ length old - at - length ys = omega (arith, first .next, same-size) in
         let sum : length old - at ≡ length ys + (length old - at - length ys) = omega (arith, h) in
         subst (λ l. Put at l old r′ new)
         (ap (λ n. ys ++ take n zs) room ∙ sym (ap (λ n. take n (ys ++ zs)) sum ∙ take-append-add ys zs (length old - at - length ys)))

@@ -78,7 +78,7 @@ body r = r .path ++ (indexPart r ++ valuePart r)
 
 -- Bytes after an op that are read as a request.
 record Shape (op : ℕ) (bs : List ℕ) (r : Request) : Type 0 where
-  same : r .op ≡ op
+  same-op : r .op ≡ op
   rest : fits r ≡ true
   bytes : bs ≡ body r
 
@@ -109,7 +109,7 @@ onIndex op value bs = record { op = op; path = take (length bs - 1) bs; index = 
 
 path-shape : (op : ℕ) (bs : List ℕ) → asksIndex op ≡ false → asksValue op ≡ false → fits (onPath op bs) ≡ true
     → Shape op bs (onPath op bs)
-path-shape op bs i v h = record { same = refl; rest = h; bytes = rw (i, v) (sym (append-nil bs)) }
+path-shape op bs i v h = record { same-op = refl; rest = h; bytes = rw (i, v) (sym (append-nil bs)) }
 
 -- What a path is, part by part.
 pub record IsPath (bs : List ℕ) : Type 0 where
@@ -138,7 +138,7 @@ index-bytes op value bs i h =
 
 index-shape : (op : ℕ) (bs : List ℕ) → asksIndex op ≡ true → asksValue op ≡ false → fits (onIndex op 0 bs) ≡ true
     → Shape op bs (onIndex op 0 bs)
-index-shape op bs i v h = record { same = refl; rest = h; bytes = rw (i, v) (index-bytes op 0 bs i h) }
+index-shape op bs i v h = record { same-op = refl; rest = h; bytes = rw (i, v) (index-bytes op 0 bs i h) }
 
 asks-index : (op : ℕ) → asksValue op ≡ true → asksIndex op ≡ true
 asks-index op h = lt-ltb opNode op (omega (arith, ltb-true opRead op h))
@@ -150,7 +150,7 @@ value-shape op bs front back v parted whole h =
     let split : front ≡ take (length front - 1) front ++ getD front (length front - 1) 0 ∷ [] =
     index-bytes op (number back) front i h in
     record {
-      same = refl;
+      same-op = refl;
       rest = h;
       bytes =
           parted
@@ -240,9 +240,9 @@ says c op bs a e r =
       is = r .is;
       allowed =
           allowed (a .request)
-          (record { op = rw (r .shape .same) (leb-true op opWriteExtended known); rest = r .shape .rest });
+          (record { op = rw (r .shape .same-op) (leb-true op opWriteExtended known); rest = r .shape .rest });
       written =
-          ap₂ (λ x y. x ∷ y ∷ bs) first (sym (r .shape .same))
+          ap₂ (λ x y. x ∷ y ∷ bs) first (sym (r .shape .same-op))
           ∙ ap (λ l. PDI ∷ a .request .op ∷ l) (r .shape .bytes);
     }
 
@@ -436,8 +436,8 @@ module _ (form : List ℕ → List ℕ) (reads : List ℕ → Received) (carrier
   exact s all r = (
     λ h.
         let says : Says (λ r. form (dataOf r)) s (readPayload (reads s)) = carried-only s all (ap (λ a. a .number) h) in
-        let same : readPayload (reads s) .request ≡ r = ap (λ a. a .request) h in
-        (subst Allowed same (says .allowed), says .written ∙ ap (λ r. form (dataOf r)) same),
+        let request-is : readPayload (reads s) .request ≡ r = ap (λ a. a .request) h in
+        (subst Allowed request-is (says .allowed), says .written ∙ ap (λ r. form (dataOf r)) request-is),
     λ h. ap (λ s. readPayload (reads s)) (h .1) ∙ carried-back r (h .0),
   )
 

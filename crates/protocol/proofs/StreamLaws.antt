@@ -106,7 +106,7 @@ double-snoc-dle c = double-snoc c DLE
 -- Inside a frame that has room, doubled content is collected and nothing is handed up.
 pub record Collected (a : ℕ) (c d : List ℕ) (n : ℕ) : Type 0 where
   pub state : after (inside false c) (double d) ≡ inside false (c ++ d)
-  pub silent : handedUpFrom a (inside false c) n (double d) ≡ []
+  pub none-handed : handedUpFrom a (inside false c) n (double d) ≡ []
 
 collect-on : (c : List ℕ) (b : ℕ) → length c < maxContent → collect c b ≡ on (inside false (c ++ b ∷ []))
 unfolding collect
@@ -122,18 +122,18 @@ unfolding step
 step-pair c h = collect-on c DLE h
 
 -- A step that brings nothing about.
-quiet-after : (s s′ : Stream) (b : ℕ) (bs : List ℕ) → step s b ≡ on s′ → after s (b ∷ bs) ≡ after s′ bs
+on-after : (s s′ : Stream) (b : ℕ) (bs : List ℕ) → step s b ≡ on s′ → after s (b ∷ bs) ≡ after s′ bs
 unfolding after
-quiet-after s s′ b bs e = ap (λ r. after (r .after) bs) e
+on-after s s′ b bs e = ap (λ r. after (r .after) bs) e
 
-quiet-silent : (a : ℕ) (s s′ : Stream) (n b : ℕ) (bs : List ℕ) → step s b ≡ on s′
+on-none-handed : (a : ℕ) (s s′ : Stream) (n b : ℕ) (bs : List ℕ) → step s b ≡ on s′
     → handedUpFrom a s n (b ∷ bs) ≡ handedUpFrom a s′ (suc n) bs
 unfolding handedUpFrom handUp
-quiet-silent a s s′ n b bs e = ap (λ r. handUp a (suc n) (r .event) ++ handedUpFrom a (r .after) (suc n) bs) e
+on-none-handed a s s′ n b bs e = ap (λ r. handUp a (suc n) (r .event) ++ handedUpFrom a (r .after) (suc n) bs) e
 
 collected : (a : ℕ) (d c : List ℕ) (n : ℕ) → length c + length d ≤ maxContent → Collected a c d n
 unfolding after handedUpFrom double step handUp
-collected a [] c n h = record { state = ap (inside false) (sym (append-nil c)); silent = refl }
+collected a [] c n h = record { state = ap (inside false) (sym (append-nil c)); none-handed = refl }
 collected a (b ∷ bs) c n h = go (eqb b DLE) refl (collected a bs (c ++ b ∷ []))
   where
     fits : length (c ++ b ∷ []) + length bs ≤ maxContent
@@ -154,26 +154,26 @@ collected a (b ∷ bs) c n h = go (eqb b DLE) refl (collected a bs (c ++ b ∷ [
         record {
           state =
               ap (after (inside false c)) (double-dle b bs e)
-              ∙ quiet-after (inside true c) _ DLE (double bs) pair
+              ∙ on-after (inside true c) _ DLE (double bs) pair
               ∙ r .state
               ∙ joined;
-          silent =
+          none-handed =
               ap (handedUpFrom a (inside false c) n) (double-dle b bs e)
-              ∙ quiet-silent a (inside true c) _ (suc n) DLE (double bs) pair
-              ∙ r .silent;
+              ∙ on-none-handed a (inside true c) _ (suc n) DLE (double bs) pair
+              ∙ r .none-handed;
         }
     go false e ih =
         let r : Collected a (c ++ b ∷ []) bs (suc n) = ih (suc n) fits in
         record {
           state =
               ap (after (inside false c)) (double-lone b bs e)
-              ∙ quiet-after (inside false c) _ b (double bs) (step-lone c b e room)
+              ∙ on-after (inside false c) _ b (double bs) (step-lone c b e room)
               ∙ r .state
               ∙ joined;
-          silent =
+          none-handed =
               ap (handedUpFrom a (inside false c) n) (double-lone b bs e)
-              ∙ quiet-silent a (inside false c) _ n b (double bs) (step-lone c b e room)
-              ∙ r .silent;
+              ∙ on-none-handed a (inside false c) _ n b (double bs) (step-lone c b e room)
+              ∙ r .none-handed;
         }
 
 -- What a frame closed at an end hands up.
@@ -193,7 +193,7 @@ handedUp-wrap a n c h =
     let m : ℕ = suc (suc n) + length (double c) in
     let end : suc (suc m) ≡ n + length (wrap c) = omega (arith, length-wrap c) in
     handedUp-append a (inside false []) (suc (suc n)) (double c) (DLE ∷ ETX ∷ [])
-    ∙ ap₂ (λ l s. l ++ handedUpFrom a s m (DLE ∷ ETX ∷ [])) (r .silent) (r .state)
+    ∙ ap₂ (λ l s. l ++ handedUpFrom a s m (DLE ∷ ETX ∷ [])) (r .none-handed) (r .state)
     ∙ ap (λ e. closedAt a c e ∷ []) end
 
 -- The frame of data of 1 to 256 bytes, for its own address: the data is handed up.

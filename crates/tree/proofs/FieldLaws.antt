@@ -108,11 +108,11 @@ module _ {bs : List ℕ} {at : ℕ} {cut : List ℕ} {i : ℕ} (w : Cutting bs a
   module _ {b : ℕ} (h : i < propertySize) (e : b ≡ getD bs (at + i) 0) where
     cut-byte : (k : ℕ) (t : Bool) → eqb k i ≡ t → k < i + 1 → getD (set cut i b) k 0 ≡ getD bs (at + k) 0
     cut-byte k true f p =
-        let same : k ≡ i = eqb-true k i f in
-        ap (λ n. getD (set cut i b) n 0) same
+        let here : k ≡ i = eqb-true k i f in
+        ap (λ n. getD (set cut i b) n 0) here
         ∙ getD-set-same cut i b 0 (omega (arith, h, w .size))
         ∙ e
-        ∙ ap (λ n. getD bs (at + n) 0) (sym same)
+        ∙ ap (λ n. getD bs (at + n) 0) (sym here)
     cut-byte k false f p =
         let other : (k ≡ i → ⊥) = eqb-false k i f in
         getD-set-other cut i k b 0 other ∙ w .read k (omega (arith, p, other))

@@ -56,7 +56,7 @@ hit-small false p = omega (arith, p)
 
 -- A number is looked for: the number that is left counts from a place on.
 pub record Seeking (bs : List ℕ) (table : Table) (node n left k : ℕ) : Type 0 where
-  pub same : numbered (belonging bs table node) n ≡ numbered (placesOn bs table node k) left
+  pub unchanged : numbered (belonging bs table node) n ≡ numbered (placesOn bs table node k) left
   pub some-left : 1 ≤ left
 
 numbered-here : (t : Bool) (k : ℕ) (xs : List ℕ) {left hit : ℕ} → hit ≡ cond t 1 0 → left ≡ hit → 1 ≤ left
@@ -86,7 +86,7 @@ module _ (bs : List ℕ) (table : Table) (node n : ℕ) where
 
   pub seek-begins : (n ≡ 0 → ⊥) → Seeking bs table node n n (table .first)
   unfolding belonging
-  seek-begins h = record { same = refl; some-left = omega (arith, h) }
+  seek-begins h = record { unchanged = refl; some-left = omega (arith, h) }
 
   module _ {left k : ℕ} (s : Seeking bs table node n left k) where
     pub seek-fits : {hit : ℕ} → hit ≡ cond (names bs table node k) 1 0 → hit ≤ left
@@ -95,7 +95,7 @@ module _ (bs : List ℕ) (table : Table) (node n : ℕ) where
     pub seek-found : {hit : ℕ} → k < table .end → hit ≡ cond (names bs table node k) 1 0 → left ≡ hit
         → numbered (belonging bs table node) n ≡ some k
     seek-found h p q =
-        s .same
+        s .unchanged
         ∙ ap (λ xs. numbered xs left) (places-step bs table node k h)
         ∙ numbered-here (names bs table node k) k (placesOn bs table node (k + 1)) p q (s .some-left)
 
@@ -103,15 +103,15 @@ module _ (bs : List ℕ) (table : Table) (node n : ℕ) where
         → Seeking bs table node n (left - hit) (k + 1)
     seek-more h p q =
         record {
-          same =
-              s .same
+          unchanged =
+              s .unchanged
               ∙ ap (λ xs. numbered xs left) (places-step bs table node k h)
               ∙ numbered-past (names bs table node k) k (placesOn bs table node (k + 1)) left p q (s .some-left);
           some-left = omega (arith, hit-small (names bs table node k) p, s .some-left, q);
         }
 
     pub seek-ends : table .end ≤ k → numbered (belonging bs table node) n ≡ none
-    seek-ends h = s .same ∙ ap (λ xs. numbered xs left) (places-end bs table node k h) ∙ numbered-nil left
+    seek-ends h = s .unchanged ∙ ap (λ xs. numbered xs left) (places-end bs table node k h) ∙ numbered-nil left
 
 -- Those that name a node are counted.
 pub record Counting (bs : List ℕ) (table : Table) (node n k : ℕ) : Type 0 where
@@ -190,7 +190,7 @@ properties-small bs all e = subst Small (sym e) (omega (arith, all 0), (omega ar
 
 -- A path is walked: what it leads to is what the numbers that are left lead to from a node.
 pub record Walking (t : Tree) (path : List ℕ) (place i : ℕ) : Type 0 where
-  pub same : nodeAt t path ≡ descend t place (drop i path)
+  pub unchanged : nodeAt t path ≡ descend t place (drop i path)
 
 pub walk-empty : (t : Tree) (path : List ℕ) → length path < 1 → nodeAt t path ≡ none
 unfolding nodeAt
@@ -205,7 +205,7 @@ walk-other t (n ∷ ns) h = ap (λ b. cond b (descend t 0 ns) none) (ne-eqb n 1 
 pub walk-begins : (t : Tree) (path : List ℕ) → getD path 0 0 ≡ 1 → Walking t path 0 1
 unfolding nodeAt
 walk-begins t [] h = absurd (omega (arith, h))
-walk-begins t (n ∷ ns) h = record { same = ap (λ b. cond b (descend t 0 ns) none) (eq-eqb n 1 h) }
+walk-begins t (n ∷ ns) h = record { unchanged = ap (λ b. cond b (descend t 0 ns) none) (eq-eqb n 1 h) }
 
 -- One number of a path.
 module _ (t : Tree) (place n : ℕ) (ns : List ℕ) where
@@ -220,15 +220,15 @@ module _ (t : Tree) (place n : ℕ) (ns : List ℕ) where
 module _ (t : Tree) (path : List ℕ) {place i : ℕ} (w : Walking t path place i) where
   walk-step : i < length path → nodeAt t path ≡ descend t place (getD path i 0 ∷ drop (i + 1) path)
   walk-step h =
-      w .same ∙ ap (descend t place) (drop-cons path i 0 h ∙ ap (λ n. getD path i 0 ∷ drop n path) (sym (add-one i)))
+      w .unchanged ∙ ap (descend t place) (drop-cons path i 0 h ∙ ap (λ n. getD path i 0 ∷ drop n path) (sym (add-one i)))
 
   pub walk-lost : i < length path → childOf t place (record { 0 = getD path i 0 }) ≡ none → nodeAt t path ≡ none
   walk-lost h e = walk-step h ∙ descend-lost t place (getD path i 0) (drop (i + 1) path) e
 
   pub walk-more : {next : ℕ} → i < length path → childOf t place (record { 0 = getD path i 0 }) ≡ some next
       → Walking t path next (i + 1)
-  walk-more h e = record { same = walk-step h ∙ descend-more t place (getD path i 0) (drop (i + 1) path) e }
+  walk-more h e = record { unchanged = walk-step h ∙ descend-more t place (getD path i 0) (drop (i + 1) path) e }
 
   pub walk-ends : length path ≤ i → nodeAt t path ≡ some place
   unfolding descend
-  walk-ends h = w .same ∙ ap (descend t place) (drop-of-length-le path {i = i} h)
+  walk-ends h = w .unchanged ∙ ap (descend t place) (drop-of-length-le path {i = i} h)

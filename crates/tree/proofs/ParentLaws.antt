@@ -128,7 +128,7 @@ module _ {bs : List ℕ} {nodes : ℕ} {depths : List ℕ} where
       pub descend-on : p < k → getD depths p 0 < maxDepth → Descending bs nodes (set depths k (getD depths p 0 + 1)) (k + 1)
       descend-on q d =
           let depth : ℕ = getD depths p 0 in
-          let same : getD (take k depths) p 0 ≡ depth = getD-take k depths p 0 q in
+          let parent-depth : getD (take k depths) p 0 ≡ depth = getD-take k depths p 0 q in
           record {
             count = w .count;
             most = w .most;
@@ -137,8 +137,8 @@ module _ {bs : List ℕ} {nodes : ℕ} {depths : List ℕ} where
             size = length-set depths k (depth + 1) ∙ w .size;
             whole =
                 here
-                ∙ one-more p (drop (suc k) (parentsIn bs)) (take k depths) (omega (arith, known)) (omega (arith, same))
-                ∙ ap (λ n. depthsFit (drop (suc k) (parentsIn bs)) (take k depths ++ n ∷ [])) (ap suc same ∙ sym (add-one depth))
+                ∙ one-more p (drop (suc k) (parentsIn bs)) (take k depths) (omega (arith, known)) (omega (arith, parent-depth))
+                ∙ ap (λ n. depthsFit (drop (suc k) (parentsIn bs)) (take k depths ++ n ∷ [])) (ap suc parent-depth ∙ sym (add-one depth))
                 ∙ ap (depthsFit (drop (suc k) (parentsIn bs))) (sym (take-suc-set depths k (depth + 1) (omega (arith, w .size, w .most))))
                 ∙ ap (λ n. depthsFit (drop n (parentsIn bs)) (take n (set depths k (depth + 1)))) (sym (add-one k));
           }

@@ -268,7 +268,7 @@ copy-begins bs old at from count =
 
 module _ {bs all old : List ℕ} {at : ℕ} {out : List ℕ} {left next i : ℕ} (w : Copying bs all old at out left next i) where
   pub copy-full : length out ≤ next → Put at (fitting at all old) old next out
-  copy-full h = fill-full all old at (w .fill) (omega (arith, w .fill .same))
+  copy-full h = fill-full all old at (w .fill) (omega (arith, w .fill .same-length))
 
   pub copy-ends : left ≡ 0 → Put at (fitting at all old) old next out
   unfolding texts textsFrom

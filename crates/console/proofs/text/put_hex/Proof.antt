@@ -2,7 +2,7 @@
 use Prim.Native.Nat.{_-_}
 use native.Mathlib.Omega.{arith}
 use lib.ListN.{length}
-use Rattle.console.proofs.TextLaws.{Writing, begins, more, same, room-left, ends}
+use Rattle.console.proofs.TextLaws.{Writing, begins, more, length-kept, room-left, ends}
 use Rattle.console.proofs.text.put_hex.Statement.{statement}
 use Rattle.console.proofs.text.put_hex.Tie as tie
 
@@ -43,7 +43,7 @@ loop-again c =
 same-length : tie.Need-same-length Inv-loop μ-loop
 same-length c =
     let start = c .before .before .before .before in
-    same (start .args .bs .now) (start .args .out .now) (start .args .from) (start .pre) (c .before .loop .inv)
+    length-kept (start .args .bs .now) (start .args .out .now) (start .args .from) (start .pre) (c .before .loop .inv)
 
 returns : tie.Need-returns Inv-loop μ-loop
 returns c =

@@ -18,14 +18,14 @@ loop-holds c =
     fill-begins (start .args .bs .now) (start .args .out .now) (start .args .at)
 
 same-length : tie.Need-same-length Inv-loop μ-loop
-same-length c = c .before .before .loop .inv .same
+same-length c = c .before .before .loop .inv .same-length
 
 returns : tie.Need-returns Inv-loop μ-loop
 returns c =
     let at-loop = c .before .before in
     let start = at-loop .before .before .before in
     fill-full (start .args .bs .now) (start .args .out .now) (start .args .at) (at-loop .loop .inv)
-    (omega (arith, at-loop .loop .inv .same, c .if1 .taken))
+    (omega (arith, at-loop .loop .inv .same-length, c .if1 .taken))
 
 shared-slice-read-put : tie.Need-shared-slice-read-put Inv-loop μ-loop
 shared-slice-read-put c = omega arith
@@ -49,7 +49,7 @@ loop-again c =
     (else1 .if1 .left) (put .put .ensures)
 
 same-length-2 : tie.Need-same-length-2 Inv-loop μ-loop
-same-length-2 c = c .before .loop .inv .same
+same-length-2 c = c .before .loop .inv .same-length
 
 returns-2 : tie.Need-returns-2 Inv-loop μ-loop
 returns-2 c =

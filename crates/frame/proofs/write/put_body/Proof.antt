@@ -2,7 +2,7 @@
 use Prim.Native.Nat.{_+_, _-_, _≤_}
 use native.Mathlib.Omega.{arith}
 use lib.ListN.{length}
-use Rattle.frame.proofs.BodyLaws.{Writing, begins, more, same, room-left, ends}
+use Rattle.frame.proofs.BodyLaws.{Writing, begins, more, length-kept, room-left, ends}
 use Rattle.frame.proofs.write.put_body.Statement.{statement}
 use Rattle.frame.proofs.write.put_body.Tie as tie
 
@@ -53,7 +53,7 @@ loop-again c =
 same-length : tie.Need-same-length Inv-loop μ-loop
 same-length c =
     let start = c .before .before .before .before in
-    same (start .args .payload .now) (start .args .out .now) (start .args .from) (start .args .first) (start .pre .0)
+    length-kept (start .args .payload .now) (start .args .out .now) (start .args .from) (start .args .first) (start .pre .0)
     (c .before .loop .inv)
 
 returns : tie.Need-returns Inv-loop μ-loop

@@ -21,7 +21,7 @@ loop-holds c =
     copy-begins (args .tree .now) (args .out .now) (args .at) (args .from) (args .count)
 
 same-length : tie.Need-same-length Inv-loop μ-loop
-same-length c = c .before .before .loop .inv .fill .same
+same-length c = c .before .before .loop .inv .fill .same-length
 
 returns : tie.Need-returns Inv-loop μ-loop
 returns c =
@@ -53,7 +53,7 @@ loop-again c =
     (c .before .before .byte-at .ensures) (c .left-after .ensures) (c .before .after .ensures)
 
 same-length-2 : tie.Need-same-length-2 Inv-loop μ-loop
-same-length-2 c = c .before .loop .inv .fill .same
+same-length-2 c = c .before .loop .inv .fill .same-length
 
 returns-2 : tie.Need-returns-2 Inv-loop μ-loop
 returns-2 c = copy-full (c .before .loop .inv) (c .loop-test .left)

@@ -157,7 +157,7 @@ fn ask_all(tally: &mut Tally, draft: &Draft, tree: &[u8]) {
     }
 }
 
-/// One request by all three roads, where the last property alone is ready and where it alone is not.
+/// One request by all three transports, where the last property alone is ready and where it alone is not.
 fn ask(tally: &mut Tally, tree: &[u8], data: &[u8]) {
     let string = wrapped(&content(ADDRESS, data));
     let datagram = [&[0; 4], data].concat();

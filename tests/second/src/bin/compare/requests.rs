@@ -6,7 +6,7 @@ use crate::tally::Tally;
 use second::frame::{checksum, DLE, ETX, STX};
 
 #[derive(Clone, Copy)]
-pub enum Road {
+pub enum Transport {
     Data,
     Serial,
     Udp,
@@ -28,10 +28,10 @@ pub fn address(random: &Random) -> u8 {
 
 fn read(random: &Random, tally: &mut Tally, draft: &Draft) {
     let address = address(random);
-    let string = draw(random, draft, Road::Serial, address);
+    let string = draw(random, draft, Transport::Serial, address);
     tally.compare(&Input { bytes: &string, address, ..Input::of(Call::ReadSerial) });
     tally.compare(&Input { bytes: &string, address, room: random.room(256), ..Input::of(Call::ReadFrame) });
-    let datagram = draw(random, draft, Road::Udp, address);
+    let datagram = draw(random, draft, Transport::Udp, address);
     tally.compare(&Input { bytes: &datagram, ..Input::of(Call::ReadUdp) });
     tally.compare(&Input { bytes: &datagram, ..Input::of(Call::DatagramData) });
 }
@@ -137,13 +137,13 @@ fn nonzero_data(random: &Random) -> Vec<u8> {
     data
 }
 
-/// Bytes as they come by a road, mostly good.
-pub fn draw(random: &Random, draft: &Draft, road: Road, address: u8) -> Vec<u8> {
+/// Bytes as they come by a transport, mostly good.
+pub fn draw(random: &Random, draft: &Draft, transport: Transport, address: u8) -> Vec<u8> {
     let data = data(random, draft);
-    match road {
-        Road::Data => data,
-        Road::Serial => string(random, data, address),
-        Road::Udp => datagram(random, data),
+    match transport {
+        Transport::Data => data,
+        Transport::Serial => string(random, data, address),
+        Transport::Udp => datagram(random, data),
     }
 }
 

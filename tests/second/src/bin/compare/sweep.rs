@@ -58,7 +58,7 @@ fn rooms(tally: &mut Tally, tree: &[u8]) {
     }
 }
 
-/// Every length of data up to 600, all 10h or none, by every road.
+/// Every length of data up to 600, all 10h or none, by every transport.
 fn lengths(tally: &mut Tally, tree: &[u8]) {
     for len in 0..=600 {
         for byte in [0x10, 0xB4] {

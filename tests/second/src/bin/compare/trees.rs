@@ -2,7 +2,7 @@
 use crate::draft::{broken, Draft, BREAKS};
 use crate::input::{Call, Input};
 use crate::random::Random;
-use crate::requests::{self, Road};
+use crate::requests::{self, Transport};
 use crate::tally::Tally;
 
 const SERVED: usize = 120;
@@ -41,15 +41,15 @@ fn begin(random: &Random, tally: &mut Tally, tree: &[u8], properties: usize) {
     tally.compare(&Input { tree, cells: &cells, ..Input::of(Call::BeginCells) });
 }
 
-/// Serves one request by a drawn road; the cells go on to the next.
+/// Serves one request by a drawn transport; the cells go on to the next.
 fn serve(random: &Random, tally: &mut Tally, draft: &Draft, tree: &[u8], cells: &mut Vec<u8>) {
-    let road = random.pick(&[Road::Data, Road::Serial, Road::Udp]);
+    let transport = random.pick(&[Transport::Data, Transport::Serial, Transport::Udp]);
     let address = requests::address(random);
-    let bytes = requests::draw(random, draft, road, address);
-    let (call, least) = match road {
-        Road::Data => (Call::ServeData, 256),
-        Road::Serial => (Call::ServeSerial, 520),
-        Road::Udp => (Call::ServeUdp, 260),
+    let bytes = requests::draw(random, draft, transport, address);
+    let (call, least) = match transport {
+        Transport::Data => (Call::ServeData, 256),
+        Transport::Serial => (Call::ServeSerial, 520),
+        Transport::Udp => (Call::ServeUdp, 260),
     };
     let mut input = Input { tree, cells, bytes: &bytes, address, ..Input::of(call) };
     input.host = random.pick(&[0, 1, 1, 1, 1, 1, 2, 255]);
