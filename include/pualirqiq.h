@@ -213,10 +213,10 @@ uint8_t pq_write_udp(uint8_t op, const uint8_t *path, size_t path_len, uint8_t i
  * address, and without its arguments, which are the caller's, and without what memcpy and memset take themselves.
  *
  *   pq_begin_cells     248      pq_feed             48      pq_restore_cells   264
- *   pq_begin_stream     24      pq_frame            16      pq_serve_data      440
- *   pq_cells_size      232      pq_post            280      pq_serve_serial    712
- *   pq_check           248      pq_read_frame      112      pq_serve_udp       440
- *   pq_check_tree      216      pq_read_serial     312      pq_state_size        8
+ *   pq_begin_stream     24      pq_frame            16      pq_serve_data      424
+ *   pq_cells_size      232      pq_post            280      pq_serve_serial    696
+ *   pq_check           248      pq_read_frame       96      pq_serve_udp       424
+ *   pq_check_tree      216      pq_read_serial     232      pq_state_size        8
  *   pq_datagram          8      pq_read_udp        184      pq_write_serial    184
  *   pq_datagram_data     8      pq_reading         280      pq_write_udp       184
  *
