@@ -10,6 +10,7 @@ use super::UNKNOWN;
 use cells::Reading;
 use frame::Written;
 use frame::buffer;
+use protocol::DONE;
 use protocol::NO_READING;
 
 fn post(n: Numbers, tree: &[u8], cells: &mut [u8], out: &mut [u8]) -> Written {
@@ -36,7 +37,7 @@ fn reading(n: Numbers, tree: &[u8], cells: &[u8], out: &mut [u8]) -> Written {
         };
     };
     Written {
-        number: 0,
+        number: DONE,
         len: super::put_word(w, out, 0),
     }
 }

@@ -16,7 +16,7 @@ use Rattle.protocol.specs.Frame.{ifRoom, ifDone, received, refused}
 use Rattle.protocol.specs.Buffer.{over, Emits}
 use Rattle.protocol.specs.Request.{Request, Asked, Allowed, allowance, fits, serialForm, udpForm, readSerial, readUdp}
 use Rattle.protocol.proofs.ListLaws.{bytes-left}
-use Rattle.protocol.proofs.BufferLaws.{over-nil}
+use Rattle.protocol.proofs.BufferLaws.{over-nil, over-front}
 use Rattle.protocol.proofs.RequestLaws.{serial-exact, udp-exact, serialForm-injective, udpForm-injective}
 use Rattle.request.specs.Asked.{requestOf, found, padded}
 use Rattle.request.specs.Write.{writeRequest}
@@ -88,7 +88,7 @@ module _ (form : Request → List ℕ) (least : ℕ) (q : Request) {old new : Li
       record {
         number = p .number;
         len = p .len;
-        front = ap (take size) (p .bytes) ∙ take-at (form q) (drop (length (form q)) old) size (sym (p .len));
+        front = over-front (form q) old (p .len) (p .bytes);
         rest =
             ap (drop size) (p .bytes)
             ∙ drop-at (form q) (drop (length (form q)) old) size (sym (p .len))

@@ -17,7 +17,7 @@ use Rattle.protocol.specs.Buffer.{over}
 use Rattle.protocol.specs.Request.{Request}
 use Rattle.protocol.specs.Tree.{Tree, Cell, propertyIn, cellIn}
 use Rattle.protocol.specs.Answer.{Answer, plain, stored, Outcome, saved, taken, readOnly, outOfRange, outcome, saveByte, reason, writeNumber, actionOf, cellsAfter, echoIndexed, writeReply, refusalCode, onWrite, answer}
-use Rattle.protocol.proofs.BufferLaws.{over-nil}
+use Rattle.protocol.proofs.BufferLaws.{over-nil, over-front}
 use Rattle.protocol.proofs.FrameLaws.{frame-injective, datagram-injective}
 use Rattle.protocol.proofs.AnswerLaws as laws
 use Rattle.protocol.proofs.AnswerLaws.{Answered, answered, refused, acknowledged, node-described, record-described, word-read, written, open-probe, cells-stay-sound, write-answered, write-accepted, write-holds, saved-done, others-stay, refusal-keeps}
@@ -86,11 +86,6 @@ save-taken taken e = refl
 save-taken readOnly e = absurd (omega arith)
 save-taken outOfRange e = absurd (omega arith)
 
--- What was written is what the length handed back covers.
-written-front : (ys out : List ℕ) {size : ℕ} {out′ : List ℕ} → size ≡ length ys → out′ ≡ over ys out → take size out′ ≡ ys
-unfolding over
-written-front ys out e f = ap₂ take e f ∙ take-at ys (drop (length ys) out) (length ys) refl
-
 asked-58 : (k : Call) → AsksOpenProbe k
     → answer (treeIn k) (cellsIn (k .cells)) true (k .string .payload) ≡ plain (cellsIn (k .cells)) noReading (NAK ∷ [])
 asked-58 k a =
@@ -128,7 +123,7 @@ module _ (k : Call) (transport : Transport k) {out cells′ out′ : List ℕ} {
           early = omega (arith, s .number);
           same-cells = s .cells;
           same-output = s .bytes ∙ over-nil out;
-          nothing = written-front [] out (s .len) (s .bytes);
+          nothing = over-front [] out (s .len) (s .bytes);
         }
 
     serves : isLent (k .tree) (k .cells) ≡ true → serving k ≡ inForm (k .form) (answerTo k) → Served
@@ -165,7 +160,7 @@ module _ (k : Call) (transport : Transport k) {out cells′ out′ : List ℕ} {
         (cells-width t (answerTo k .cells) (cells-stay-sound t cs (k .host) bs (cells-sound-in (k .tree) (k .cells) all (s .lent))))
 
     sent : Served → take size out′ ≡ k .form (answerTo k .reply)
-    sent s = written-front (k .form (answerTo k .reply)) out (s .gives .len) (s .gives .bytes)
+    sent s = over-front (k .form (answerTo k .reply)) out (s .gives .len) (s .gives .bytes)
 
     replied : Served → (reply : List ℕ) → take size out′ ≡ k .form reply → answerTo k .reply ≡ reply
     replied s reply e =
