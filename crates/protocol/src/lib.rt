@@ -72,6 +72,15 @@ pub const STANDARD: u8 = 1;
 
 pub const ENUMERATION: u8 = 2;
 
+// Attribute and format bits, by their place in the number (document 003, 5.3).
+pub const BIT_READ: u32 = 0;
+
+pub const BIT_WRITE: u32 = 1;
+
+pub const BIT_LIVE: u32 = 13;
+
+pub const BIT_SIGNED: u32 = 15;
+
 // The status of a read that succeeded (document 003, 5.4), and the save byte (5.5).
 pub const STATUS_OK: u8 = 0x01;
 

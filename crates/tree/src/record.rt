@@ -3,6 +3,10 @@ use super::NODE_SIZE;
 use super::PROPERTY_SIZE;
 use super::bytes;
 use super::texts;
+use protocol::BIT_LIVE;
+use protocol::BIT_READ;
+use protocol::BIT_SIGNED;
+use protocol::BIT_WRITE;
 use protocol::ENUMERATION;
 ghost use mathlib.Core.Path.{_≡_};
 ghost use Prim.Native.Nat.{_+_, _<_, _≤_, _^_};
@@ -31,25 +35,25 @@ impl Fields {
     pub fn can_read(self) -> bool
         ensures { λ r. ⌜ r ≡ bit bitRead (self .attribute) ⌝ }
     {
-        self.attribute % 2 == 1
+        (self.attribute >> BIT_READ) % 2 == 1
     }
 
     pub fn can_write(self) -> bool
         ensures { λ r. ⌜ r ≡ bit bitWrite (self .attribute) ⌝ }
     {
-        self.attribute / 2 % 2 == 1
+        (self.attribute >> BIT_WRITE) % 2 == 1
     }
 
     pub fn is_live(self) -> bool
         ensures { λ r. ⌜ r ≡ bit bitLive (self .attribute) ⌝ }
     {
-        self.attribute / 8192 % 2 == 1
+        (self.attribute >> BIT_LIVE) % 2 == 1
     }
 
     pub fn is_signed(self) -> bool
         ensures { λ r. ⌜ r ≡ bit bitSigned (self .format) ⌝ }
     {
-        self.format / 32768 % 2 == 1
+        (self.format >> BIT_SIGNED) % 2 == 1
     }
 }
 
