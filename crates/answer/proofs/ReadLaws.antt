@@ -1,20 +1,20 @@
 -- What a reading's number tells: rows 2 to 7 of the string, rows 10 and 11 of its data, or a request.
 -- Assumes nothing.
-use Prim.Native.Nat.{ℕ, suc, _-_, _<_, _≤_}
+use Prim.Native.Nat.{ℕ, _-_, _<_, _≤_}
 use native.Mathlib.Omega.{arith}
 use mathlib.Core.Path.{_≡_, refl, sym, ap, ap₂, _∙_}
 use mathlib.Core.Bool.{Bool, true, false, cond, _&&_}
-use mathlib.Core.List.{List, [], _∷_}
+use mathlib.Core.List.{List}
 use mathlib.Core.Option.{Option, none, some}
-use borrow.Author.Tests.{eqb-true, eqb-false, leb-true, ltb-true, ltb-false, lt-ltb, eq-eqb, ne-eqb}
+use borrow.Author.Tests.{eqb-true, eqb-false, ltb-true, ltb-false, lt-ltb, eq-eqb, ne-eqb}
 use lib.ListN.{length, getD, take, drop, replicate}
 use lib.Seq.{take-at}
-use lib.Dec.{eqb, leb, ltb}
-use Rattle.protocol.specs.Numbers.{done, disabled, badParameter, unknownCommand, tooShort, tooLong, badChecksum, otherAddress, badPair, noPreamble, PDI, DLE, STX, opWriteExtended, maxData, maxContent, maxDepth}
+use lib.Dec.{eqb, ltb}
+use Rattle.protocol.specs.Numbers.{done, disabled, tooShort, tooLong, badChecksum, otherAddress, badPair, noPreamble, DLE, STX, maxData, maxContent, maxDepth}
 use Rattle.protocol.specs.Frame.{Received, received, refused, sizeNumber, ifSized, judge, judgeWhole, undouble, readFrame, readDatagram, fourZeros, checksum, addressIn, dataIn, checksumIn}
 use Rattle.protocol.specs.Buffer.{over}
-use Rattle.protocol.specs.Request.{Request, Asked, allowance, Allowed, asksIndex, asksValue, fits, declined, askedIf, beforeZero, readIndexed, readValued, readShape, readRequest, readPayload}
-use Rattle.protocol.proofs.TestLaws.{and-left, and-right, if-both, if-case}
+use Rattle.protocol.specs.Request.{Asked, allowance, Allowed, declined, readRequest, readPayload}
+use Rattle.protocol.proofs.TestLaws.{and-left, and-right, if-both}
 use Rattle.protocol.proofs.AnswerLaws.{readRequest-fits}
 use Rattle.protocol.proofs.RequestLaws.{allowed, path-most, readPayload-by}
 use Rattle.request.specs.declared.Asked as declared

@@ -2,13 +2,13 @@
 -- Assumes nothing.
 use Prim.Native.Nat.{ℕ, _<_, _≤_}
 use native.Mathlib.Omega.{arith}
-use mathlib.Core.Path.{_≡_, refl, sym, ap, ap₂, subst, _∙_}
+use mathlib.Core.Path.{_≡_, refl, sym, ap, subst, _∙_}
 use mathlib.Core.Bool.{Bool, true, false, cond}
 use mathlib.Core.List.{List, [], _∷_, _++_}
 use mathlib.Core.Logic.{_⊎_, inl, inr}
 use borrow.Author.Tests.{eqb-false}
 use lib.ListN.{length, getD, take, drop}
-use lib.Seq.{take-at, drop-at}
+use lib.Seq.{drop-at}
 use lib.Dec.{eqb, ltb}
 use Rattle.protocol.specs.Numbers.{done, unsound, noRoom, disabled, noReading, notSaved, DISABLED, NAK, opWrite, saveFailed, saveDone, saveNone}
 use Rattle.protocol.specs.Bytes.{Bytes, word, text}

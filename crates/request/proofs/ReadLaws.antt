@@ -1,6 +1,6 @@
 -- Requests as they are read: what was found, from the inside out.
 -- Assumes nothing.
-use Prim.Native.Nat.{ℕ, zero, suc, _+_, _-_, _*_, _^_, _<_, _≤_}
+use Prim.Native.Nat.{ℕ, suc, _+_, _-_, _<_, _≤_}
 use native.Mathlib.Omega.{arith}
 use native.Mathlib.Numerals.{add-one}
 use native.Mathlib.Decide.{decLe}
@@ -12,11 +12,11 @@ use lib.ListN.{length, getD, take, drop, replicate, length-take, length-drop, le
 use lib.Seq.{take-all, take-take, getD-drop}
 use lib.Dec.{eqb, leb}
 use Rattle.protocol.specs.Numbers.{done, unknownCommand, badParameter, PDI, opNode, opRead, opWriteExtended, maxDepth}
-use Rattle.protocol.specs.Bytes.{numberAfter, number}
+use Rattle.protocol.specs.Bytes.{number}
 use Rattle.protocol.specs.Frame.{Received, readFrame, cut, readDatagram}
 use Rattle.protocol.specs.Buffer.{over, Put, Emits}
 use Rattle.protocol.specs.Request.{Request, Asked, asksIndex, asksValue, fits, declined, askedIf, beforeZero, readIndexed, readValued, readShape, readRequest, readPayload, readSerial, readUdp}
-use Rattle.protocol.proofs.BufferLaws.{over-put, over-front, part-lent}
+use Rattle.protocol.proofs.BufferLaws.{over-put, over-front}
 use Rattle.protocol.proofs.RequestLaws.{askedIf-by, readValued-by, readShape-by, readRequest-by, readRequest-one, readPayload-by, path-most}
 use Rattle.request.specs.declared.Asked as declared
 use Rattle.request.specs.Asked.{requestOf, found, padded, AskedIs}

@@ -12,7 +12,7 @@ use borrow.Author.Tests.{leb-true, le-leb, eq-eqb, ne-eqb}
 use lib.ListN.{length, getD, drop}
 use lib.Seq.{drop-drop}
 use lib.Dec.{eqb, leb}
-use Rattle.protocol.specs.Numbers.{done, unsound, standard, enumeration, maxNodes, maxProperties, maxOption, maxTexts, nameRoom}
+use Rattle.protocol.specs.Numbers.{standard, enumeration, maxNodes, maxProperties, maxOption, maxTexts, nameRoom}
 use Rattle.protocol.specs.Bytes.{atMost}
 use Rattle.protocol.specs.Tree.{Property, isSigned, canRead, canWrite, isLive, liveSound, propertyIn}
 use Rattle.protocol.proofs.TestLaws.{and-left, and-right}
@@ -20,12 +20,12 @@ use Rattle.tree.specs.declared.Found.{Found}
 use Rattle.tree.specs.declared.Found.the-variants.{At, Nothing}
 use Rattle.tree.specs.declared.record.Fields.{Fields}
 use Rattle.tree.specs.Form.{nodeSize, propertySize, propertiesStart, textsStart}
-use Rattle.tree.specs.Seen.{halfAt, wordAt, seen, isTree, nodeCount, propertyCount, propertySeen, optionCount}
+use Rattle.tree.specs.Seen.{halfAt, wordAt, seen, nodeCount, propertyCount, propertySeen, optionCount}
 use Rattle.tree.specs.Check.{textsEndIn, andThen, nodeEnd, kindFits, fieldsFit, propertyEnd, recordsEnd, parentsFit, parentsIn, countsFit, textsFit, endsAt, checked}
 use Rattle.tree.specs.Lookup.{foundOf, FieldsAre, numbersOf}
 use Rattle.tree.proofs.FoundLaws.{found-at, found-none, if-some, then-back}
 use Rattle.tree.proofs.NumberLaws.{half-behind}
-use Rattle.tree.proofs.FieldLaws.{property-at, property-count, name-place}
+use Rattle.tree.proofs.FieldLaws.{property-at, name-place}
 use Rattle.tree.proofs.TextLaws.{texts-within}
 
 -- A node's record: its name lies elsewhere, or here.

@@ -1,9 +1,7 @@
 // Numbers read from lent bytes. A byte past the end is 0.
 ghost use mathlib.Core.Path.{_≡_};
-ghost use Prim.Native.Nat.{_+_, _*_, _<_, _^_};
-ghost use mathlib.Core.List.{[], _∷_};
+ghost use Prim.Native.Nat.{_+_, _<_, _^_};
 ghost use lib.ListN.{getD};
-ghost use Rattle.protocol.specs.Bytes.{number};
 ghost use Rattle.tree.specs.Seen.{halfAt, wordAt};
 
 pub(crate) fn byte_at(bs: &[u8], at: usize) -> u8

@@ -10,7 +10,7 @@ use Rattle.protocol.specs.Frame.{doubled}
 use Rattle.protocol.specs.Buffer.{Put}
 use Rattle.protocol.proofs.FrameLaws.{length-doubled}
 use Rattle.protocol.proofs.BufferLaws.{puts, put-room}
-use Rattle.frame.proofs.WriteLaws.{front, pieces, front-short, pieces-frame}
+use Rattle.frame.proofs.WriteLaws.{front, front-short, pieces-frame}
 use Rattle.frame.proofs.write.put_frame.Statement.{statement}
 use Rattle.frame.proofs.write.put_frame.Tie as tie
 
