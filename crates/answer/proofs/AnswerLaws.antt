@@ -20,7 +20,8 @@ use Rattle.tree.specs.declared.record.Fields.{Fields}
 use Rattle.tree.specs.Form.{treeForm}
 use Rattle.tree.specs.Seen.{seen, same, isTree}
 use Rattle.cells.specs.Cells.{cellsForm, withWord}
-use Rattle.tree.specs.Lookup.{FieldsAre, numbersOf}
+use Rattle.tree.specs.Lookup.{FieldsAre}
+use Rattle.tree.specs.Steps.{numbersOf}
 use Rattle.cells.specs.Lent.{isLent}
 use Rattle.tree.proofs.FormLaws.{sound-parts}
 use Rattle.cells.proofs.CellLaws.{word-stored}

@@ -17,7 +17,8 @@ use Rattle.protocol.proofs.RequestLaws.{dataOf-size}
 use Rattle.request.specs.declared.Asked.{Asked}
 use Rattle.request.proofs.WriteLaws.{data-path, data-index, data-value, put-as, fit-as}
 use Rattle.tree.specs.declared.record.Fields.{Fields}
-use Rattle.tree.specs.Lookup.{FieldsAre, numbersOf}
+use Rattle.tree.specs.Lookup.{FieldsAre}
+use Rattle.tree.specs.Steps.{numbersOf}
 use Rattle.answer.specs.declared.write.Outcome as written
 use Rattle.answer.specs.Steps.{requestIn, Asks, meaning, numbersIn}
 

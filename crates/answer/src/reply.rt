@@ -20,7 +20,7 @@ ghost use Rattle.protocol.specs.Request.{dataOf};
 ghost use Rattle.protocol.specs.Tree.{propertyIn, Cell};
 ghost use Rattle.protocol.specs.Answer.{reason, nodeReply, recordReply, readReply, writeReply};
 ghost use Rattle.tree.specs.Seen.{seen};
-ghost use Rattle.tree.specs.Lookup.{numbersOf};
+ghost use Rattle.tree.specs.Steps.{numbersOf};
 ghost use Rattle.answer.specs.Steps.{requestIn, Asks, meaning, numbersIn};
 
 // A reply of one code.

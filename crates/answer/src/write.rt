@@ -9,7 +9,7 @@ ghost use mathlib.Core.Path.{_≡_};
 ghost use mathlib.Core.Bool.{_&&_};
 ghost use lib.Dec.{eqb};
 ghost use Rattle.protocol.specs.Answer.{inRange, outcome, saveByte};
-ghost use Rattle.tree.specs.Lookup.{numbersOf};
+ghost use Rattle.tree.specs.Steps.{numbersOf};
 ghost use Rattle.answer.specs.Steps.{meaning};
 
 // The value is saved, the action is taken, or neither: the property has no write attribute, or the value is out of range.

@@ -5,7 +5,7 @@ use libc::STDOUT_FILENO;
 ghost use mathlib.Core.Path.{_≡_};
 ghost use mathlib.Core.Bool.{true};
 ghost use Rattle.stream.specs.State.{hasForm};
-ghost use Rattle.console.specs.Bench.{Progress};
+ghost use Rattle.console.specs.Steps.{Progress};
 
 // How many bytes a step took, and whether its lines could be written.
 pub(crate) struct Told {

@@ -16,7 +16,8 @@ use Rattle.stream.specs.State.{hasForm, standing, keep}
 use Rattle.stream.specs.Feed.{FedBy, Ran, fedBy, fed, runFrom, next}
 use Rattle.stream.proofs.StateLaws.{state-of}
 use Rattle.stream.proofs.DeliveryLaws.{Follows, follows}
-use Rattle.console.specs.Bench.{benchAddress, textRoom, shows, stepped, Stepped, Steps, Progress}
+use Rattle.console.specs.Bench.{benchAddress, textRoom, shows, stepped, Stepped, Steps}
+use Rattle.console.specs.Steps.{Progress}
 
 -- A run takes something where there is something.
 next-some : (e : Event) (after : Stream) (st : List ℕ) (r : Ran) → 0 < next e after st r .taken

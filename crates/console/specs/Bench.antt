@@ -1,5 +1,5 @@
 -- 01, Bench tree and its cases: what the bench program does with a part of its input.
-use Prim.Native.Nat.{ℕ, _<_, _≤_}
+use Prim.Native.Nat.{ℕ}
 use mathlib.Core.Path.{_≡_}
 use mathlib.Core.Bool.{cond, true}
 use mathlib.Core.List.{List, []}
@@ -9,7 +9,6 @@ use Rattle.protocol.specs.Numbers.{done, noFrame, roomData}
 use Rattle.protocol.specs.Frame.{writeFrame}
 use Rattle.protocol.specs.Buffer.{over}
 use Rattle.protocol.specs.Bench.{benchTree}
-use Rattle.stream.specs.State.{hasForm}
 use Rattle.stream.specs.Feed.{FedBy, fed}
 use Rattle.tree.specs.Form.{treeForm}
 use Rattle.answer.specs.Serve.{Service, serveData}
@@ -63,10 +62,3 @@ pub record Steps (what : Stepped) (old : List ℕ) (count size : ℕ) (state′ 
   pub state : state′ ≡ what .state
   pub cells : cells′ ≡ what .cells
   pub bytes : new ≡ over (what .shown) old
-
--- A call over a part of the input goes on: it leaves a state that has a form, takes no more than there is, and something where
--- there is something.
-pub record Progress (bytes : List ℕ) (count : ℕ) (state′ : List ℕ) : Type 0 where
-  pub form : hasForm state′ ≡ true
-  pub fits : count ≤ length bytes
-  pub some : 0 < length bytes → 0 < count

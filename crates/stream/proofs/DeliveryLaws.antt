@@ -21,7 +21,7 @@ use Rattle.protocol.proofs.FrameLaws.{judge-only, Good, isSummed, length-conten
 use Rattle.protocol.proofs.StreamLaws.{closing, after-append, handedUp-append, closed-stands, second-sending}
 use Rattle.stream.specs.State.{stateLength, contentIn, keep, hasForm, streamWith, standing}
 use Rattle.stream.specs.Feed.{Ran, one-more, ended, next, runFrom, FedBy, eventResult, fedBy, takesNone, fed, Feeds}
-use Rattle.stream.specs.Delivery.{Delivery, Meets, Deliveries, Begins, took, joined, endsNoFrame, entry, handedBy, Stands, AllStand, NoneUnsound, stateAfter, settled, Delivered}
+use Rattle.stream.specs.Delivery.{Delivery, Meets, Deliveries, Begins, took, joined, endsNoFrame, entry, handedBy, Stands, AllStand, NoneUnsound, stateAfter, Delivered}
 use Rattle.stream.proofs.FeedLaws.{not-closed}
 use Rattle.stream.proofs.StateLaws.{StateOf, state-of-kept, state-of, step-few}
 
@@ -32,6 +32,11 @@ begins {st} b = subst (λ s. StateOf s st) (b .outside) (state-of st (b .form))
 pub fresh-begins : Begins (replicate stateLength 0)
 unfolding hasForm streamWith
 fresh-begins = record { form = refl; outside = refl }
+
+-- The bytes of a state after all of some bytes were fed, frame after frame.
+unfoldable pub settled : Stream → List ℕ → List ℕ → List ℕ
+settled s state [] = state
+settled s state (b ∷ bs) = settled (step s b .after) (keep (step s b .after) state) bs
 
 -- The last byte of a call that closed a frame.
 pub record ClosedBy (s : Stream) (bs c : List ℕ) : Type 0 where

@@ -7,8 +7,8 @@ use lib.ListN.{length, take}
 use lib.Dec.{eqb}
 use Rattle.protocol.specs.Numbers.{done, unsound, noRoom, noFrame}
 use Rattle.protocol.specs.Frame.{frame, Sized}
-use Rattle.protocol.specs.Stream.{Stream, begin, HandedUp, handedUp, step}
-use Rattle.stream.specs.State.{keep, hasForm, standing}
+use Rattle.protocol.specs.Stream.{begin, HandedUp, handedUp}
+use Rattle.stream.specs.State.{hasForm, standing}
 use Rattle.stream.specs.Feed.{fed, Feeds}
 
 -- One delivery: a call with any bytes and any lent output, what it returned, and what it left in output and state.
@@ -81,11 +81,6 @@ NoneUnsound (d ∷ ds) = (d .number ≡ unsound → ⊥) × NoneUnsound ds
 abbrev pub stateAfter : List ℕ → List Delivery → List ℕ
 stateAfter state [] = state
 stateAfter state (d ∷ ds) = stateAfter (d .state) ds
-
--- The bytes of a state after all of some bytes were fed, frame after frame.
-unfoldable pub settled : Stream → List ℕ → List ℕ → List ℕ
-settled s state [] = state
-settled s state (b ∷ bs) = settled (step s b .after) (keep (step s b .after) state) bs
 
 -- Demand 3 of document 01 on streams, in one statement about a list of deliveries.
 pub record Delivered (address : ℕ) (ds : List Delivery) : Type 0 where

@@ -20,7 +20,8 @@ use Rattle.protocol.specs.Answer.{recordTexts}
 use Rattle.protocol.proofs.BufferLaws.{part-lent}
 use Rattle.tree.specs.declared.record.Fields.{Fields}
 use Rattle.tree.specs.Form.{nodeSize, propertySize, propertiesStart}
-use Rattle.tree.specs.Seen.{entries, halfAt, wordAt, firstText, afterText, textsFrom, nodeSeen, propertySeen, optionCount, nodeCount, propertyCount, seen}
+use Rattle.tree.specs.Seen.{halfAt, wordAt, firstText, afterText, textsFrom, nodeSeen, propertySeen, optionCount, nodeCount, propertyCount, seen}
+use Rattle.tree.specs.Steps.{entries}
 use Rattle.tree.specs.Lookup.{FieldsAre}
 use Rattle.tree.proofs.RecordLaws.{records-length, records-at}
 use Rattle.tree.proofs.NumberLaws.{entries-at, entries-alike, half-behind, word-behind}

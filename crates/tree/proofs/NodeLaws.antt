@@ -14,7 +14,8 @@ use Rattle.protocol.specs.Bytes.{Bytes, every, half, text, texts}
 use Rattle.protocol.specs.Tree.{Node, isText, isName}
 use Rattle.protocol.proofs.TestLaws.{and-left, and-right, and-both}
 use Rattle.tree.specs.Form.{nodeSize, nodeTexts, nodeRecord}
-use Rattle.tree.specs.Seen.{entries, halfAt, firstText, textsFrom, nodeSeen}
+use Rattle.tree.specs.Seen.{halfAt, firstText, textsFrom, nodeSeen}
+use Rattle.tree.specs.Steps.{entries}
 use Rattle.tree.specs.Check.{textsEnd, textsEndIn, nodeEnd}
 use Rattle.tree.proofs.FoundLaws.{if-some}
 use Rattle.tree.proofs.ScanLaws.{Lie, scan-back, text-seen, scan-forth}

@@ -10,7 +10,8 @@ use lib.Seq.{drop-cons, getD-drop}
 use Rattle.protocol.specs.Numbers.{byteEnd, halfEnd, wordEnd}
 use Rattle.protocol.specs.Bytes.{Bytes, half, word, number, numberAfter}
 use Rattle.protocol.proofs.ListLaws.{word-number}
-use Rattle.tree.specs.Seen.{entries, halfAt, wordAt}
+use Rattle.tree.specs.Seen.{halfAt, wordAt}
+use Rattle.tree.specs.Steps.{entries}
 
 -- A number of 32 bits is written as bytes.
 pub word-bytes : (n : ℕ) → Bytes (word n)

@@ -19,7 +19,8 @@ use Rattle.protocol.specs.Answer.{recordTexts}
 use Rattle.protocol.proofs.TestLaws.{and-left, and-right, and-both}
 use Rattle.protocol.proofs.ListLaws.{number-word}
 use Rattle.tree.specs.Form.{propertySize, propertyRecord}
-use Rattle.tree.specs.Seen.{entries, halfAt, wordAt, firstText, afterText, textsFrom, optionCount, propertySeen, nodeCount}
+use Rattle.tree.specs.Seen.{halfAt, wordAt, firstText, afterText, textsFrom, optionCount, propertySeen, nodeCount}
+use Rattle.tree.specs.Steps.{entries}
 use Rattle.tree.specs.Check.{textsEnd, textsEndIn, andThen, kindFits, fieldsFit, propertyEnd}
 use Rattle.tree.proofs.ScanLaws.{Lie, scan-back, text-seen, text-passed, texts-seen, scan-forth}
 use Rattle.tree.proofs.FoundLaws.{if-some, then-some, then-back}

@@ -22,7 +22,8 @@ use Rattle.tree.specs.declared.record.Fields.{Fields}
 use Rattle.tree.specs.Form.{nodeSize, propertySize, propertiesStart, textsStart}
 use Rattle.tree.specs.Seen.{halfAt, wordAt, seen, nodeCount, propertyCount, propertySeen, optionCount}
 use Rattle.tree.specs.Check.{textsEndIn, andThen, nodeEnd, kindFits, fieldsFit, propertyEnd, recordsEnd, parentsFit, parentsIn, countsFit, textsFit, endsAt, checked}
-use Rattle.tree.specs.Lookup.{foundOf, FieldsAre, numbersOf}
+use Rattle.tree.specs.Lookup.{foundOf, FieldsAre}
+use Rattle.tree.specs.Steps.{numbersOf}
 use Rattle.tree.proofs.FoundLaws.{found-at, found-none, if-some, then-back}
 use Rattle.tree.proofs.NumberLaws.{half-behind}
 use Rattle.tree.proofs.FieldLaws.{property-at, name-place}

@@ -2,5 +2,6 @@
 pub mod Form
 pub mod Seen
 pub mod Lookup
+pub mod Steps
 pub mod Check
 pub mod Find

@@ -1,7 +1,6 @@
 -- What the lookups hand back: a place, and the numbers of a property.
 use Prim.Native.Nat.{ℕ}
 use mathlib.Core.Path.{_≡_}
-use mathlib.Core.List.{[]}
 use mathlib.Core.Option.{Option, none, some}
 use Rattle.protocol.specs.Tree.{Property}
 use Rattle.tree.specs.declared.Found.{Found}
@@ -21,17 +20,3 @@ pub record FieldsAre (p : Property) (r : Fields) : Type 0 where
   pub max : r .max ≡ p .max
   pub attribute : r .attribute ≡ p .attribute
   pub format : r .format ≡ p .format
-
--- A property of these numbers, with no texts.
-abbrev pub numbersOf : Fields → Property
-numbersOf f =
-    record {
-      node = f .node;
-      kind = f .kind;
-      min = f .min;
-      max = f .max;
-      attribute = f .attribute;
-      format = f .format;
-      label = [];
-      options = [];
-    }

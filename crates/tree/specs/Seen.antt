@@ -12,11 +12,6 @@ use Rattle.protocol.specs.Request.{beforeZero}
 use Rattle.protocol.specs.Tree.{Node, Property, Tree, sound}
 use Rattle.tree.specs.Form.{nodeSize, propertySize, propertiesStart, treeForm}
 
--- So many bytes from a place on.
-unfoldable pub entries : ℕ → ℕ → List ℕ → List ℕ
-entries i zero r = []
-entries i (suc n) r = getD r i 0 ∷ entries (suc i) n r
-
 -- Numbers of 16 and 32 bits at a place.
 unfoldable pub halfAt : ℕ → List ℕ → ℕ
 halfAt i r = number (getD r i 0 ∷ getD r (i + 1) 0 ∷ [])

@@ -23,7 +23,8 @@ ghost use Rattle.protocol.specs.Tree.{liveSound};
 ghost use Rattle.tree.specs.Form.{nodeSize, propertySize, propertiesStart};
 ghost use Rattle.tree.specs.Seen.{isTree, nodeCount, propertyCount};
 ghost use Rattle.tree.specs.Check.{nodeEnd, propertyEnd, recordsEnd, kindFits, fieldsFit, countsFit};
-ghost use Rattle.tree.specs.Lookup.{foundOf, numbersOf};
+ghost use Rattle.tree.specs.Lookup.{foundOf};
+ghost use Rattle.tree.specs.Steps.{numbersOf};
 
 // A node's record, from where the texts before it ended: the end of its name.
 fn node_end(tree: &[u8], k: usize, at: usize) -> Found

@@ -18,7 +18,8 @@ ghost use Rattle.protocol.specs.Buffer.{Put, fitting};
 ghost use Rattle.protocol.specs.Tree.{nodeIn, propertyIn};
 ghost use Rattle.protocol.specs.Answer.{recordTexts};
 ghost use Rattle.tree.specs.Form.{propertiesStart};
-ghost use Rattle.tree.specs.Seen.{entries, propertySeen, seen, optionCount};
+ghost use Rattle.tree.specs.Seen.{propertySeen, seen, optionCount};
+ghost use Rattle.tree.specs.Steps.{entries};
 ghost use Rattle.tree.specs.Lookup.{FieldsAre};
 
 // What a property's record holds beside its texts.

@@ -5,7 +5,7 @@ use borrow.Author.Needs.{needs}
 use borrow.Author.Tests.{not-true, not-false}
 use Rattle.protocol.specs.Bytes.{atMost}
 use Rattle.protocol.specs.Answer.{inRange}
-use Rattle.tree.specs.Lookup.{numbersOf}
+use Rattle.tree.specs.Steps.{numbersOf}
 use Rattle.answer.proofs.WriteLaws.{range-other, range-by}
 use Rattle.answer.proofs.write.in_range.Statement.{statement}
 use Rattle.answer.proofs.write.in_range.Tie as tie

@@ -5,7 +5,7 @@ use borrow.Author.Needs.{needs}
 use borrow.Author.Tests.{not-true, not-false}
 use Rattle.protocol.specs.Tree.{canRead, canWrite}
 use Rattle.protocol.specs.Answer.{saved, outOfRange, outcome}
-use Rattle.tree.specs.Lookup.{numbersOf}
+use Rattle.tree.specs.Steps.{numbersOf}
 use Rattle.answer.proofs.WriteLaws.{outcome-by}
 use Rattle.answer.proofs.write.outcome_of.Statement.{statement}
 use Rattle.answer.proofs.write.outcome_of.Tie as tie

@@ -2,7 +2,7 @@
 use mathlib.Core.Path.{refl, sym, _∙_}
 use borrow.Author.Tests.{not-true, not-false}
 use borrow.Author.Needs.{needs}
-use Rattle.tree.specs.Lookup.{numbersOf}
+use Rattle.tree.specs.Steps.{numbersOf}
 use Rattle.tree.proofs.StepLaws.{live-by}
 use Rattle.tree.proofs.check.live_fits.Statement.{statement}
 use Rattle.tree.proofs.check.live_fits.Tie as tie
