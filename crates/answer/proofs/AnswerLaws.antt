@@ -12,16 +12,13 @@ use Rattle.protocol.specs.Numbers.{done, disabled, badParameter, noReading, ACK
 use Rattle.protocol.specs.Buffer.{Put}
 use Rattle.protocol.specs.Request.{Request, Asked, Allowed}
 use Rattle.protocol.specs.Tree.{Property, Tree, Cell, propertyOf, nodeAt, propertyIn, cellIn, sound, readable}
-use Rattle.protocol.specs.Answer.{Outcome, inRange, outcome, writeNumber, stored, cellsAfter, actionOf, nodeReply, recordReply, readReply, writeReply, Answer, plain, refuse, refusalCode, onRead, onWrite, onProperty, ifProperty, ifNode, perform, ifAsked}
+use Rattle.protocol.specs.Answer.{Outcome, outcome, writeNumber, stored, cellsAfter, actionOf, nodeReply, recordReply, readReply, writeReply, Answer, plain, refuse, refusalCode, onRead, onWrite, onProperty, ifProperty, ifNode, perform, ifAsked}
 use Rattle.protocol.proofs.TestLaws.{and-left, and-right}
 use Rattle.protocol.proofs.RequestLaws.{fitting, path-most}
 use Rattle.protocol.proofs.AnswerLaws.{Texts, texts-short, node-size, record-size}
-use Rattle.tree.specs.declared.record.Fields.{Fields}
 use Rattle.tree.specs.Form.{treeForm}
 use Rattle.tree.specs.Seen.{seen, same, isTree}
 use Rattle.cells.specs.Cells.{cellsForm, withWord}
-use Rattle.tree.specs.Lookup.{FieldsAre}
-use Rattle.tree.specs.Steps.{numbersOf}
 use Rattle.cells.specs.Lent.{isLent}
 use Rattle.tree.proofs.FormLaws.{sound-parts}
 use Rattle.cells.proofs.CellLaws.{word-stored}
@@ -45,11 +42,6 @@ module _ (tree cells : List ℕ) (lent : isLent tree cells ≡ true) where
 
   pub record-short : (r : Request) → Allowed r → (place : ℕ) → length (recordReply (propertyIn (seen tree) place) r) ≤ 256
   record-short r h place = record-size r (path-most r (fitting r h .rest)) (seen tree) short place .most
-
--- What a write does turns on the property's numbers alone.
-pub outcome-same : (v : ℕ) {p : Property} {f : Fields} → FieldsAre p f → outcome (numbersOf f) v ≡ outcome p v
-unfolding outcome inRange
-outcome-same v h = rw (h .kind, h .min, h .max, h .attribute, h .format)
 
 -- A refusal, and the answers that leave the cells as they are.
 pub refuses : {n code size : ℕ} {out out′ : List ℕ} → code ≡ refusalCode n → Put 0 (code ∷ []) out size out′

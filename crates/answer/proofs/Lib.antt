@@ -2,5 +2,4 @@
 pub mod ReadLaws
 pub mod ServeLaws
 pub mod ReplyLaws
-pub mod WriteLaws
 pub mod AnswerLaws

@@ -1,23 +1,18 @@
 -- No public promise is stated by these definitions: they follow the code step by step.
--- 01, Requests and replies: what the parts of a reply are made from.
 use Prim.Native.Nat.{ℕ, _≤_}
 use mathlib.Core.Path.{_≡_}
 use mathlib.Core.Bool.{Bool, true, false}
-use mathlib.Core.List.{List, [], _∷_, _++_}
+use mathlib.Core.List.{List, [], _∷_}
 use lib.ListN.{take}
 use Rattle.protocol.specs.Numbers.{done, disabled, noAction, maxDepth}
-use Rattle.protocol.specs.Bytes.{half, word}
 use Rattle.protocol.specs.Buffer.{Put}
 use Rattle.protocol.specs.Request.{Request, Asked, allowance}
-use Rattle.protocol.specs.Tree.{Property, Tree, Cell}
-use Rattle.protocol.specs.Answer as rule
+use Rattle.protocol.specs.Tree.{Tree, Cell}
 use Rattle.protocol.specs.Answer.{Answer, refuse, refusalCode, ifAsked}
 use Rattle.request.specs.Asked.{requestOf}
 use Rattle.request.specs.declared.Asked as declared
 use Rattle.cells.specs.Cells.{cellsForm}
 use Rattle.answer.specs.Serve.{actionNumber}
-use Rattle.answer.specs.declared.write.Outcome.{Outcome}
-use Rattle.answer.specs.declared.write.Outcome.the-variants.{Saved, Taken, ReadOnly, OutOfRange}
 
 -- The request that reading handed back, and the whole of what it handed back.
 abbrev pub requestIn : declared.Asked → Request
@@ -30,17 +25,6 @@ askedIn a = record { number = a .number; request = requestIn a }
 pub record Asks (a : declared.Asked) : Type 0 where
   pub short : a .len ≤ maxDepth
   pub allowed : allowance (requestIn a) ≡ done
-
--- What a write did.
-abbrev pub meaning : Outcome → rule.Outcome
-meaning Saved = rule.saved
-meaning Taken = rule.taken
-meaning ReadOnly = rule.readOnly
-meaning OutOfRange = rule.outOfRange
-
--- The numbers of a record, as its description has them.
-unfoldable pub numbersIn : Property → List ℕ
-numbersIn p = p .kind ∷ (word (p .min) ++ (word (p .max) ++ (half (p .attribute) ++ half (p .format))))
 
 -- What was read, answered: 9 first, then 10 and 11, then 12 or 13.
 unfoldable pub answerAsked : Tree → List Cell → Bool → Asked → Answer

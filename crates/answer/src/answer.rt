@@ -1,8 +1,5 @@
 // A request that was read, answered: the reply at the front of an output of at least 256 bytes, and the cells afterwards.
 use super::Served;
-use super::reply;
-use super::write;
-use super::write::Outcome;
 use cells::Reading;
 use cells::cell;
 use protocol::BAD_PARAMETER;
@@ -17,22 +14,45 @@ use protocol::OP_READ;
 use protocol::OP_RECORD;
 use protocol::UNKNOWN_COMMAND;
 use protocol::codes;
+use reply::write;
+use reply::write::Outcome;
 use request::Asked;
 use tree::Found;
 use tree::find;
-use tree::record;
 ghost use mathlib.Core.Path.{_≡_};
 ghost use mathlib.Core.Bool.{true};
+ghost use mathlib.Core.List.{[], _∷_};
 ghost use mathlib.Core.Option.{some};
 ghost use Prim.Native.Nat.{_≤_, _<_};
 ghost use lib.ListN.{length};
 ghost use Rattle.protocol.specs.Numbers.{done, opDetect, opNode, opRead};
+ghost use Rattle.protocol.specs.Buffer.{Put};
+ghost use Rattle.protocol.specs.Request.{dataOf};
 ghost use Rattle.protocol.specs.Tree.{propertyIn};
 ghost use Rattle.protocol.specs.Answer.{refusalCode, onRead, onWrite, onProperty, ifNode, perform, outcome};
 ghost use Rattle.tree.specs.Seen.{seen};
 ghost use Rattle.cells.specs.Cells.{cellsIn};
 ghost use Rattle.cells.specs.Lent.{isLent};
 ghost use Rattle.answer.specs.Steps.{requestIn, askedIn, Asks, Refuses, answerAsked, Answers};
+
+// A reply of one code.
+fn put_code(out: &mut [u8], code: u8) -> usize
+    requires { ⌜ 256 ≤ length (now out) ⌝ }
+    ensures { λ r. ⌜ Put 0 (code ∷ []) (now (out .entry)) r (now (out .exit)) ⌝ }
+{
+    out[0] = code;
+    1
+}
+
+// The request's data, which every other reply begins with.
+fn put_request(asked: Asked, out: &mut [u8]) -> usize
+    requires { ⌜ (256 ≤ length (now out)) × (Asks asked) ⌝ }
+    ensures { λ r. ⌜ Put 0 (dataOf (requestIn asked)) (now (out .entry)) r (now (out .exit)) ⌝ }
+{
+    let path = asked.path;
+    let len = asked.len;
+    request::write::put_data(asked.op, &path[..len], asked.index, asked.value, out)
+}
 
 // Rows 9 to 12: the reply code of a refusal.
 fn refusal_code(number: u8) -> u8
@@ -56,7 +76,7 @@ fn refuse(number: u8, out: &mut [u8]) -> Served
 {
     Served {
         number,
-        len: reply::put_code(out, refusal_code(number)),
+        len: put_code(out, refusal_code(number)),
         action: NO_ACTION,
     }
 }
@@ -69,9 +89,10 @@ fn on_read(tree: &[u8], cells: &[u8], place: usize, asked: Asked, out: &mut [u8]
     let Reading::Word(n) = cell::reading(tree, cells, place) else {
         return refuse(NO_READING, out);
     };
+    let at = put_request(asked, out);
     Served {
         number: DONE,
-        len: reply::put_reading(n, asked, out),
+        len: reply::put_reading(n, out, at),
         action: NO_ACTION,
     }
 }
@@ -81,8 +102,9 @@ fn on_write(tree: &[u8], cells: &mut [u8], place: usize, asked: Asked, out: &mut
     requires { ⌜ (256 ≤ length (now out)) × ((isLent (now tree) (now cells) ≡ true) × (Asks asked × ((opRead < asked .op) × (place < 256)))) ⌝ }
     ensures { λ r. ⌜ Answers (onWrite (cellsIn (now (cells .entry))) place (requestIn asked) (outcome (propertyIn (seen (now (tree .entry))) place) (asked .value))) (now (out .entry)) (r .number) (r .len) (r .action) (now (cells .exit)) (now (out .exit)) ⌝ }
 {
-    let o = write::outcome_of(record::read_fields(tree, place), asked.value);
-    let len = reply::put_written(o, asked, out);
+    let o = write::outcome_of(tree, place, asked.value);
+    let at = put_request(asked, out);
+    let len = reply::put_written(o, asked.op, out, at);
     match o {
         Outcome::Saved => {
             cell::store_word(cells, place, asked.value);
@@ -118,9 +140,10 @@ fn on_property(tree: &[u8], cells: &mut [u8], place: usize, asked: Asked, out: &
     ensures { λ r. ⌜ Answers (onProperty (seen (now (tree .entry))) (cellsIn (now (cells .entry))) (requestIn asked) place) (now (out .entry)) (r .number) (r .len) (r .action) (now (cells .exit)) (now (out .exit)) ⌝ }
 {
     if asked.op == OP_RECORD {
+        let at = put_request(asked, out);
         return Served {
             number: DONE,
-            len: reply::put_record(tree, place, asked, out),
+            len: reply::put_record(tree, place, out, at),
             action: NO_ACTION,
         };
     }
@@ -136,9 +159,10 @@ fn on_node(tree: &[u8], cells: &mut [u8], node: usize, asked: Asked, out: &mut [
     ensures { λ r. ⌜ Answers (ifNode (seen (now (tree .entry))) (cellsIn (now (cells .entry))) (requestIn asked) (some node)) (now (out .entry)) (r .number) (r .len) (r .action) (now (cells .exit)) (now (out .exit)) ⌝ }
 {
     if asked.op == OP_NODE {
+        let at = put_request(asked, out);
         return Served {
             number: DONE,
-            len: reply::put_node(tree, node, asked, out),
+            len: reply::put_node(tree, node, out, at),
             action: NO_ACTION,
         };
     }
@@ -156,7 +180,7 @@ fn perform(tree: &[u8], cells: &mut [u8], asked: Asked, out: &mut [u8]) -> Serve
     if asked.op == OP_DETECT {
         return Served {
             number: DONE,
-            len: reply::put_code(out, codes::ACK),
+            len: put_code(out, codes::ACK),
             action: NO_ACTION,
         };
     }

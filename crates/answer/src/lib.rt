@@ -1,8 +1,6 @@
 // Requests answered from a lent tree and its cells, over each of the three transports: request data, serial strings, datagrams.
 mod answer;
-mod reply;
 pub mod serve;
-mod write;
 
 // What a serving call returns: a number of document 01, the length of what it wrote, and the place of the property whose action
 // is to be taken, or 255.

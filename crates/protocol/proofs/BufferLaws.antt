@@ -74,6 +74,13 @@ put-nil at xs =
       bytes = sym (ap (λ n. take at xs ++ drop n xs) (add-zero at) ∙ take-append-drop at xs);
     }
 
+-- Data that was put, for what it is.
+pub put-as : {at r : ℕ} {ys zs old new : List ℕ} → ys ≡ zs → Put at ys old r new → Put at zs old r new
+put-as {at} {r} {old = old} {new = new} e p = subst (λ l. Put at l old r new) e p
+
+pub fit-as : {at r : ℕ} {ys zs old new : List ℕ} → ys ≡ zs → Put at (fitting at ys old) old r new → Put at (fitting at zs old) old r new
+fit-as {at} {r} {old = old} {new = new} e p = subst (λ l. Put at (fitting at l old) old r new) e p
+
 -- A helper's bytes behind those of another.
 pub puts : {at r r′ : ℕ} {ys zs old mid new : List ℕ} → at ≤ length old → Put at ys old r mid → Put r zs mid r′ new
     → Put at (ys ++ zs) old r′ new

@@ -68,34 +68,44 @@ actionOf taken place = some place
 actionOf readOnly place = none
 actionOf outOfRange place = none
 
--- The table's last column: B4, the op and the path in front, the index behind them where there is one.
+-- The table's last column: B4, the op and the path in front, the index behind them where there is one; then what the request
+-- asked for (its body).
 abbrev pub echo : Request → List ℕ
 echo r = PDI ∷ r .op ∷ r .path
 
 abbrev pub echoIndexed : Request → List ℕ
 echoIndexed r = echo r ++ r .index ∷ []
 
+abbrev pub nodeBody : Tree → ℕ → List ℕ
+nodeBody t place = length (childrenOf t place) ∷ length (propertiesOf t place) ∷ text (nodeIn t place .name)
+
 unfoldable pub nodeReply : Tree → ℕ → Request → List ℕ
-nodeReply t place r =
-    echo r ++ length (childrenOf t place) ∷ length (propertiesOf t place) ∷ text (nodeIn t place .name)
+nodeReply t place r = echo r ++ nodeBody t place
 
 abbrev pub recordTexts : Property → List ℕ
 recordTexts p = text (p .label) ++ texts (p .options)
 
+abbrev pub recordBody : Property → List ℕ
+recordBody p =
+    p .kind ∷ (word (p .min) ++ (word (p .max) ++ (half (p .attribute) ++ (half (p .format) ++ recordTexts p))))
+
 unfoldable pub recordReply : Property → Request → List ℕ
-recordReply p r =
-    echoIndexed r
-    ++ p .kind ∷ (word (p .min) ++ (word (p .max) ++ (half (p .attribute) ++ (half (p .format) ++ recordTexts p))))
+recordReply p r = echoIndexed r ++ recordBody p
 
 -- 003, 5.4: a status byte stands before the word, 01 for OK.
+abbrev pub readBody : ℕ → List ℕ
+readBody n = statusOk ∷ word n
+
 unfoldable pub readReply : Cell → Request → List ℕ
-readReply c r = echoIndexed r ++ statusOk ∷ word (c .word)
+readReply c r = echoIndexed r ++ readBody (c .word)
+
+-- The save byte, and for op 5 the text.
+abbrev pub writeBody : Outcome → ℕ → List ℕ
+writeBody o op = saveByte o ∷ cond (eqb op opWrite) [] (text (reason o))
 
 -- The value in a reply to a write is the one sent, saved or not.
 unfoldable pub writeReply : Outcome → Request → List ℕ
-writeReply o r =
-    echoIndexed r
-    ++ 0 ∷ (word (r .value) ++ saveByte o ∷ cond (eqb (r .op) opWrite) [] (text (reason o)))
+writeReply o r = echoIndexed r ++ 0 ∷ (word (r .value) ++ writeBody o (r .op))
 
 -- What a call answers: the number, the reply's data, the cells afterwards, and the place of the property whose action is
 -- to be taken.

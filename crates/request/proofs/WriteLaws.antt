@@ -35,13 +35,6 @@ module _ (op : ℕ) (path : List ℕ) (index value : ℕ) where
   unfolding dataOf
   data-value h = sym (rw (lt-ltb opNode op (omega (arith, h)), lt-ltb opRead op h))
 
--- Data that was put, for what it is.
-pub put-as : {at r : ℕ} {ys zs old new : List ℕ} → ys ≡ zs → Put at ys old r new → Put at zs old r new
-put-as {at} {r} {old = old} {new = new} e p = subst (λ l. Put at l old r new) e p
-
-pub fit-as : {at r : ℕ} {ys zs old new : List ℕ} → ys ≡ zs → Put at (fitting at ys old) old r new → Put at (fitting at zs old) old r new
-fit-as {at} {r} {old = old} {new = new} e p = subst (λ l. Put at (fitting at l old) old r new) e p
-
 pub length-word : (n : ℕ) → length (word n) ≡ 4
 unfolding word
 length-word n = refl

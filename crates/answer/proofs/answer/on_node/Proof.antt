@@ -10,6 +10,7 @@ use Rattle.cells.specs.Cells.{cellsForm, cellsIn}
 use Rattle.cells.proofs.CellLaws.{lent-form}
 use Rattle.tree.proofs.FoundLaws.{found-at, found-none}
 use Rattle.answer.specs.Steps.{requestIn}
+use Rattle.answer.proofs.ReplyLaws.{put-node-reply}
 use Rattle.answer.proofs.AnswerLaws.{node-short, refused, replied, answers-as, is-node, no-property, at-property}
 use Rattle.answer.proofs.answer.on_node.Statement.{statement}
 use Rattle.answer.proofs.answer.on_node.Tie as tie
@@ -31,19 +32,11 @@ found c =
     found-at (propertyOf (seen (start .args .tree .now)) (start .args .node) (start .args .asked .index))
     (sym (c .place .given .1) ∙ find .property .ensures)
 
+put-request-requires : tie.Need-put-request-requires
+put-request-requires c κs = search needs
+
 put-node-requires : tie.Need-put-node-requires
-put-node-requires c κs =
-    let start = start-of (c .before .before) in
-    let asks = start .pre .1 .1 .0 in (
-      start .pre .0,
-      (
-        asks,
-        (
-          c .before .if1 .taken,
-          node-short (start .args .tree .now) (start .args .cells .now) (start .pre .1 .0) (requestIn (start .args .asked)) (asks .allowed) (start .args .node),
-        ),
-      ),
-    )
+put-node-requires c κs = search needs
 
 same-length : tie.Need-same-length
 same-length c = search needs
@@ -51,10 +44,18 @@ same-length c = search needs
 returns : tie.Need-returns
 returns c =
     let put = c .before .before in
-    let test = put .before .before in
+    let request = put .before .before .before .before in
+    let test = request .before .before in
     let start = start-of (test .before) in
-    answers-as (is-node (seen (start .args .tree .now)) (cellsIn (start .args .cells .now)) (requestIn (start .args .asked)) (start .args .node) (test .if1 .taken))
-    (replied (lent (test .before)) (put .put-node .ensures))
+    let tree = start .args .tree .now in
+    let cells = start .args .cells .now in
+    let asked = requestIn (start .args .asked) in
+    answers-as (is-node (seen tree) (cellsIn cells) asked (start .args .node) (test .if1 .taken))
+    (replied (lent (test .before))
+    (put-node-reply asked (request .put-request .ensures) (seen tree) (start .args .node)
+    (omega (arith, start .pre .0, node-short tree cells (start .pre .1 .0) asked (start .pre .1 .1 .0 .allowed) (start .args .node)))
+    (test .if1 .taken)
+    (put .put-node .ensures)))
 
 property-requires : tie.Need-property-requires
 property-requires c κs = search needs
@@ -119,6 +120,7 @@ pub on-node-spec : {M : Type 1} → statement M
 on-node-spec =
     tie.close
     (tie.spec
+    put-request-requires
     put-node-requires
     same-length
     returns

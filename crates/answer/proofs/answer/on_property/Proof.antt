@@ -3,10 +3,12 @@ use Prim.Native.Nat.{_<_}
 use native.Mathlib.Omega.{arith}
 use borrow.Author.Needs.{needs}
 use Rattle.protocol.specs.Numbers.{opRead}
+use Rattle.protocol.specs.Tree.{propertyIn}
 use Rattle.tree.specs.Seen.{seen}
 use Rattle.cells.specs.Cells.{cellsIn}
 use Rattle.cells.proofs.CellLaws.{lent-form}
 use Rattle.answer.specs.Steps.{requestIn}
+use Rattle.answer.proofs.ReplyLaws.{put-record-reply}
 use Rattle.answer.proofs.AnswerLaws.{place-fits, record-short, replied, answers-as, is-record, is-reading, is-write}
 use Rattle.answer.proofs.answer.on_property.Statement.{statement}
 use Rattle.answer.proofs.answer.on_property.Tie as tie
@@ -21,19 +23,11 @@ above c =
     let start = start-of (c .before .before .before) in
     omega (arith, c .before .before .if1 .left, c .if2 .left, start .pre .1 .1 .1 .0)
 
+put-request-requires : tie.Need-put-request-requires
+put-request-requires c κs = search needs
+
 put-record-requires : tie.Need-put-record-requires
-put-record-requires c κs =
-    let start = start-of (c .before .before) in
-    let asks = start .pre .1 .1 .0 in (
-      start .pre .0,
-      (
-        asks,
-        (
-          c .before .if1 .taken,
-          record-short (start .args .tree .now) (start .args .cells .now) (start .pre .1 .0) (requestIn (start .args .asked)) (asks .allowed) (start .args .place),
-        ),
-      ),
-    )
+put-record-requires c κs = search needs
 
 same-length : tie.Need-same-length
 same-length c = search needs
@@ -41,10 +35,18 @@ same-length c = search needs
 returns : tie.Need-returns
 returns c =
     let put = c .before .before in
-    let test = put .before .before in
+    let request = put .before .before .before .before in
+    let test = request .before .before in
     let start = start-of (test .before) in
-    answers-as (is-record (seen (start .args .tree .now)) (cellsIn (start .args .cells .now)) (requestIn (start .args .asked)) (start .args .place) (test .if1 .taken))
-    (replied (lent-form (start .args .tree .now) (start .args .cells .now) (start .pre .1 .0)) (put .put-record .ensures))
+    let tree = start .args .tree .now in
+    let cells = start .args .cells .now in
+    let asked = requestIn (start .args .asked) in
+    answers-as (is-record (seen tree) (cellsIn cells) asked (start .args .place) (test .if1 .taken))
+    (replied (lent-form tree cells (start .pre .1 .0))
+    (put-record-reply asked (request .put-request .ensures) (propertyIn (seen tree) (start .args .place))
+    (omega (arith, start .pre .0, record-short tree cells (start .pre .1 .0) asked (start .pre .1 .1 .0 .allowed) (start .args .place)))
+    (test .if1 .taken)
+    (put .put-record .ensures)))
 
 on-read-requires : tie.Need-on-read-requires
 on-read-requires c κs = search needs
@@ -98,6 +100,7 @@ pub on-property-spec : {M : Type 1} → statement M
 on-property-spec =
     tie.close
     (tie.spec
+    put-request-requires
     put-record-requires
     same-length
     returns

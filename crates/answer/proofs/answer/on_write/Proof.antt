@@ -1,32 +1,36 @@
 -- `answer::answer::on_write` meets its contract. Assumes nothing.
 use Prim.Native.Nat.{ℕ}
-use mathlib.Core.Path.{_≡_, refl, ap, _∙_}
+use native.Mathlib.Omega.{arith}
+use mathlib.Core.Path.{_≡_, refl, ap}
 use mathlib.Core.List.{List}
 use borrow.Author.Needs.{needs}
 use Rattle.protocol.specs.Tree.{propertyIn}
 use Rattle.protocol.specs.Answer.{Outcome, writeNumber, actionOf, cellsAfter, outcome, onWrite}
+use Rattle.protocol.proofs.AnswerLaws.{write-size}
 use Rattle.tree.specs.Seen.{seen}
 use Rattle.cells.specs.Cells.{cellsForm, cellsIn}
 use Rattle.cells.proofs.CellLaws.{lent-form}
 use Rattle.answer.specs.Serve.{actionNumber}
-use Rattle.answer.specs.Steps.{requestIn, meaning, Answers}
-use Rattle.answer.proofs.AnswerLaws.{outcome-same, writes, saved-cells}
+use Rattle.reply.specs.Outcome.{meaning}
+use Rattle.answer.specs.Steps.{requestIn, Answers}
+use Rattle.answer.proofs.ReplyLaws.{path-short, put-write-reply}
+use Rattle.answer.proofs.AnswerLaws.{writes, saved-cells}
 use Rattle.answer.proofs.answer.on_write.Statement.{statement}
 use Rattle.answer.proofs.answer.on_write.Tie as tie
 
 -- Where the function begins, from where the reply is written.
-abbrev start-of : tie.After-slice-known3 → tie.Start
-start-of c = c .before .before .before .before .before .before .before .before .before
+abbrev start-of : tie.After-slice-known4 → tie.Start
+start-of c = c .before .before .before .before .before .before .before .before .before .before .before .before
 
-lent : (c : tie.After-slice-known3) → start-of c .args .cells .now ≡ cellsForm (cellsIn (start-of c .args .cells .now))
+lent : (c : tie.After-slice-known4) → start-of c .args .cells .now ≡ cellsForm (cellsIn (start-of c .args .cells .now))
 lent c = lent-form (start-of c .args .tree .now) (start-of c .args .cells .now) (start-of c .pre .1 .0)
 
 -- What is answered, by what the write did.
-wrote : (c : tie.After-slice-known3) {did : Outcome} {n size action : ℕ} {cells : List ℕ}
+wrote : (c : tie.After-slice-known4) {did : Outcome} {n size action : ℕ} {cells : List ℕ}
     → let put = c .before .before in
     let start = start-of c in
     let cs = cellsIn (start .args .cells .now) in
-    meaning (put .before .before .outcome-of .result) ≡ did → n ≡ writeNumber did → size ≡ put .put-written .result
+    meaning (put .before .before .before .before .before .before .outcome-of .result) ≡ did → n ≡ writeNumber did → size ≡ put .put-written .result
     → action ≡ actionNumber (actionOf did (start .args .place))
     → cells ≡ cellsForm (cellsAfter did cs (start .args .place) (start .args .asked .value))
     → Answers
@@ -34,17 +38,23 @@ wrote : (c : tie.After-slice-known3) {did : Outcome} {n size action : ℕ} {cell
     (start .args .out .now) n size action cells (put .put-written .last .1 .1 .0)
 wrote c is number len action cells =
     let put = c .before .before in
-    let told = put .before .before in
+    let request = put .before .before .before .before in
+    let told = request .before .before in
     let start = start-of c in
-    writes (cellsIn (start .args .cells .now)) (start .args .place) (requestIn (start .args .asked))
-    (told .outcome-of .ensures ∙ outcome-same (start .args .asked .value) (told .before .read-fields .ensures))
-    is (put .put-written .ensures) number len action cells
-
-read-fields-requires : tie.Need-read-fields-requires
-read-fields-requires c κs = search needs
+    let asked = requestIn (start .args .asked) in
+    let o = meaning (told .outcome-of .result) in
+    writes (cellsIn (start .args .cells .now)) (start .args .place) asked (told .outcome-of .ensures) is
+    (put-write-reply asked (request .put-request .ensures) o
+    (omega (arith, start .pre .0, write-size asked (path-short (start .args .asked) (start .pre .1 .1 .0)) o .most))
+    (start .pre .1 .1 .1 .0)
+    (put .put-written .ensures))
+    number len action cells
 
 outcome-of-requires : tie.Need-outcome-of-requires
 outcome-of-requires c κs = search needs
+
+put-request-requires : tie.Need-put-request-requires
+put-request-requires c κs = search needs
 
 put-written-requires : tie.Need-put-written-requires
 put-written-requires c κs = search needs
@@ -58,8 +68,8 @@ store-word-requires c κs = search needs
 enum-told-2 : tie.Need-enum-told-2
 enum-told-2 c = search needs
 
-cast-t15 : tie.Need-cast-t15
-cast-t15 c = search needs
+cast-t17 : tie.Need-cast-t17
+cast-t17 c = search needs
 
 enum-told-3 : tie.Need-enum-told-3
 enum-told-3 c = search needs
@@ -124,13 +134,13 @@ pub on-write-spec : {M : Type 1} → statement M
 on-write-spec =
     tie.close
     (tie.spec
-    read-fields-requires
     outcome-of-requires
+    put-request-requires
     put-written-requires
     enum-told
     store-word-requires
     enum-told-2
-    cast-t15
+    cast-t17
     enum-told-3
     not-saved-requires
     enum-told-4

@@ -7,8 +7,8 @@ use lib.ListN.{length, take}
 use Rattle.protocol.specs.Numbers.{PDI}
 use Rattle.protocol.specs.Bytes.{word}
 use Rattle.protocol.specs.Buffer.{fitting, Put}
-use Rattle.protocol.proofs.BufferLaws.{fits-join}
-use Rattle.request.proofs.WriteLaws.{data-path, data-index, data-value, fit-as, length-word, part-size}
+use Rattle.protocol.proofs.BufferLaws.{fit-as, fits-join}
+use Rattle.request.proofs.WriteLaws.{data-path, data-index, data-value, length-word, part-size}
 use Rattle.request.proofs.write.put_data.Statement.{statement}
 use Rattle.request.proofs.write.put_data.Tie as tie
 
