@@ -18,7 +18,6 @@ use reply::write;
 use reply::write::Outcome;
 use request::Asked;
 use tree::Found;
-use tree::find;
 ghost use mathlib.Core.Path.{_≡_};
 ghost use mathlib.Core.Bool.{true};
 ghost use mathlib.Core.List.{[], _∷_};
@@ -166,7 +165,7 @@ fn on_node(tree: &[u8], cells: &mut [u8], node: usize, asked: Asked, out: &mut [
             action: NO_ACTION,
         };
     }
-    let Found::At(place) = find::property(tree, node, asked.index) else {
+    let Found::At(place) = lookup::property(tree, node, asked.index) else {
         return refuse(BAD_PARAMETER, out);
     };
     on_property(tree, cells, place, asked, out)
@@ -186,7 +185,7 @@ fn perform(tree: &[u8], cells: &mut [u8], asked: Asked, out: &mut [u8]) -> Serve
     }
     let path = asked.path;
     let len = asked.len;
-    let Found::At(node) = find::node(tree, &path[..len]) else {
+    let Found::At(node) = lookup::node(tree, &path[..len]) else {
         return refuse(BAD_PARAMETER, out);
     };
     on_node(tree, cells, node, asked, out)

@@ -5,7 +5,6 @@ pub mod write;
 use frame::buffer;
 use protocol::OP_WRITE;
 use protocol::STATUS_OK;
-use tree::find;
 use tree::record;
 use tree::record::Fields;
 use write::Outcome;
@@ -23,7 +22,7 @@ ghost use Rattle.reply.specs.Steps.{numbersIn};
 pub fn put_node(tree: &[u8], node: usize, out: &mut [u8], at: usize) -> usize
     ensures { λ r. ⌜ Put at (fitting at (nodeBody (seen (now (tree .entry))) node) (now (out .entry))) (now (out .entry)) r (now (out .exit)) ⌝ }
 {
-    let counts = [find::children(tree, node), find::properties(tree, node)];
+    let counts = [lookup::children(tree, node), lookup::properties(tree, node)];
     let named = buffer::put_all(&counts, out, at);
     record::put_name(tree, node, out, named)
 }

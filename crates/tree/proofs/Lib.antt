@@ -11,7 +11,6 @@ pub mod DepthLaws
 pub mod FormLaws
 pub mod CheckLaws
 pub mod ByteLaws
-pub mod FindLaws
 pub mod FieldLaws
 pub mod TextLaws
 pub mod ParentLaws

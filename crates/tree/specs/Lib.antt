@@ -4,4 +4,3 @@ pub mod Seen
 pub mod Lookup
 pub mod Steps
 pub mod Check
-pub mod Find

@@ -4,7 +4,7 @@ ghost use Prim.Native.Nat.{_+_, _<_, _^_};
 ghost use lib.ListN.{getD};
 ghost use Rattle.tree.specs.Seen.{halfAt, wordAt};
 
-pub(crate) fn byte_at(bs: &[u8], at: usize) -> u8
+pub fn byte_at(bs: &[u8], at: usize) -> u8
     ensures { λ r. ⌜ r ≡ getD (now (bs .entry)) at 0 ⌝ }
 {
     if at < bs.len() {

@@ -1,9 +1,8 @@
 // The lent tree: the check, lookups, a property's fields and texts. Every call gets it as bytes (docs/FORMATS.md) and trusts
 // none of them.
 pub mod bench;
-mod bytes;
+pub mod bytes;
 pub mod check;
-pub mod find;
 mod parents;
 pub mod record;
 mod texts;

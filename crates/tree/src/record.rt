@@ -86,7 +86,7 @@ pub fn property_count(tree: &[u8]) -> usize
 }
 
 // Where the property records begin.
-pub(crate) fn properties_start(tree: &[u8]) -> usize
+pub fn properties_start(tree: &[u8]) -> usize
     ensures { λ r. ⌜ r ≡ propertiesStart (getD (now (tree .entry)) 0 0) ⌝ }
 {
     2 + word::wide(bytes::byte_at(tree, 0)) * NODE_SIZE

@@ -5,9 +5,9 @@ use mathlib.Core.List.{List}
 use lib.ListN.{getD, drop}
 use lib.Dec.{eqb}
 use Rattle.protocol.specs.Tree.{placesFrom}
 use Rattle.tree.specs.Form.{nodeSize, propertySize, propertiesStart}
 use Rattle.tree.specs.Seen.{recordsFrom, nodeCount, propertyCount}
-use Rattle.tree.specs.declared.find.Table.{Table}
+use Rattle.lookup.specs.declared.Table.{Table}
 
 -- The places of the records of a table that name a node, which each does by its first byte.
 unfoldable pub belonging : List ℕ → Table → ℕ → List ℕ

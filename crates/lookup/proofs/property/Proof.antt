@@ -1,12 +1,12 @@
--- `tree::find::property` meets its contract. Assumes nothing.
+-- `lookup::property` meets its contract. Assumes nothing.
 use borrow.Author.Needs.{needs}
 use native.Mathlib.Omega.{arith}
 use mathlib.Core.Path.{ap, _∙_}
 use Rattle.protocol.specs.Tree.{numbered}
 use Rattle.tree.specs.Lookup.{foundOf}
-use Rattle.tree.proofs.FindLaws.{properties-in, properties-small}
-use Rattle.tree.proofs.find.property.Statement.{statement}
-use Rattle.tree.proofs.find.property.Tie as tie
+use Rattle.lookup.proofs.FindLaws.{properties-in, properties-small}
+use Rattle.lookup.proofs.property.Statement.{statement}
+use Rattle.lookup.proofs.property.Tie as tie
 
 properties-table-requires : tie.Need-properties-table-requires
 properties-table-requires c κs = search needs

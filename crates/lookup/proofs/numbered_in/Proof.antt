@@ -1,11 +1,11 @@
--- `tree::find::numbered_in` meets its contract. Assumes nothing.
+-- `lookup::numbered_in` meets its contract. Assumes nothing.
 use Prim.Native.Nat.{_-_}
 use native.Mathlib.Omega.{arith}
 use mathlib.Core.Path.{ap, sym}
 use Rattle.tree.specs.Lookup.{foundOf}
-use Rattle.tree.proofs.FindLaws.{Seeking, seek-none, seek-begins, seek-fits, seek-found, seek-more, seek-ends}
-use Rattle.tree.proofs.find.numbered_in.Statement.{statement}
-use Rattle.tree.proofs.find.numbered_in.Tie as tie
+use Rattle.lookup.proofs.FindLaws.{Seeking, seek-none, seek-begins, seek-fits, seek-found, seek-more, seek-ends}
+use Rattle.lookup.proofs.numbered_in.Statement.{statement}
+use Rattle.lookup.proofs.numbered_in.Tie as tie
 
 abbrev Inv-loop : tie.InvT-loop
 Inv-loop tree table node n left₀ k₀ left k = Seeking tree table node n left k

@@ -1,8 +1,8 @@
--- `tree::find::children_table` meets its contract. Assumes nothing.
+-- `lookup::children_table` meets its contract. Assumes nothing.
 use borrow.Author.Needs.{needs}
 use mathlib.Core.Path.{ap, _∙_}
-use Rattle.tree.proofs.find.children_table.Statement.{statement}
-use Rattle.tree.proofs.find.children_table.Tie as tie
+use Rattle.lookup.proofs.children_table.Statement.{statement}
+use Rattle.lookup.proofs.children_table.Tie as tie
 
 byte-at-requires : tie.Need-byte-at-requires
 byte-at-requires c κs = search needs

@@ -1,8 +1,8 @@
--- `tree::find::properties_table` meets its contract. Assumes nothing.
+-- `lookup::properties_table` meets its contract. Assumes nothing.
 use borrow.Author.Needs.{needs}
 use mathlib.Core.Path.{ap₂, _∙_}
-use Rattle.tree.proofs.find.properties_table.Statement.{statement}
-use Rattle.tree.proofs.find.properties_table.Tie as tie
+use Rattle.lookup.proofs.properties_table.Statement.{statement}
+use Rattle.lookup.proofs.properties_table.Tie as tie
 
 properties-start-requires : tie.Need-properties-start-requires
 properties-start-requires c κs = search needs

@@ -1,4 +1,4 @@
--- `tree::find::names_node` meets its contract. Assumes nothing.
+-- `lookup::names_node` meets its contract. Assumes nothing.
 use Prim.Native.Nat.{ℕ, _+_, _*_}
 use borrow.Author.Needs.{needs}
 use borrow.Author.Tests.{eq-eqb, ne-eqb}
@@ -7,9 +7,9 @@ use native.Mathlib.Nat.{mul-le-mul, le-of-lt}
 use mathlib.Core.Path.{_≡_, ap, refl, sym, _∙_}
 use mathlib.Core.Bool.{cond}
 use lib.ListN.{getD}
 use Rattle.tree.proofs.SameLaws.{differ}
-use Rattle.tree.proofs.find.names_node.Statement.{statement}
-use Rattle.tree.proofs.find.names_node.Tie as tie
+use Rattle.lookup.proofs.names_node.Statement.{statement}
+use Rattle.lookup.proofs.names_node.Tie as tie
 
 mul-byte-at : tie.Need-mul-byte-at
 mul-byte-at c =

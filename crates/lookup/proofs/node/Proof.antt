@@ -1,16 +1,16 @@
--- `tree::find::node` meets its contract. Assumes nothing.
+-- `lookup::node` meets its contract. Assumes nothing.
 use Prim.Native.Nat.{_-_}
 use borrow.Author.Needs.{needs}
 use native.Mathlib.Omega.{arith}
 use mathlib.Core.Path.{ap, sym, _∙_}
 use lib.ListN.{length, getD}
 use Rattle.protocol.specs.Tree.{childOf}
 use Rattle.tree.specs.Seen.{seen}
 use Rattle.tree.specs.Lookup.{foundOf}
 use Rattle.tree.proofs.FoundLaws.{found-at, found-none}
-use Rattle.tree.proofs.FindLaws.{Walking, walk-empty, walk-other, walk-begins, walk-lost, walk-more, walk-ends}
-use Rattle.tree.proofs.find.node.Statement.{statement}
-use Rattle.tree.proofs.find.node.Tie as tie
+use Rattle.lookup.proofs.FindLaws.{Walking, walk-empty, walk-other, walk-begins, walk-lost, walk-more, walk-ends}
+use Rattle.lookup.proofs.node.Statement.{statement}
+use Rattle.lookup.proofs.node.Tie as tie
 
 abbrev Inv-loop : tie.InvT-loop
 Inv-loop tree path place₀ i₀ place i = Walking (seen tree) path place i

@@ -1,12 +1,12 @@
--- `tree::find::child` meets its contract. Assumes nothing.
+-- `lookup::child` meets its contract. Assumes nothing.
 use borrow.Author.Needs.{needs}
 use native.Mathlib.Omega.{arith}
 use mathlib.Core.Path.{ap, _∙_}
 use Rattle.protocol.specs.Tree.{numbered}
 use Rattle.tree.specs.Lookup.{foundOf}
-use Rattle.tree.proofs.FindLaws.{children-in, children-small}
-use Rattle.tree.proofs.find.child.Statement.{statement}
-use Rattle.tree.proofs.find.child.Tie as tie
+use Rattle.lookup.proofs.FindLaws.{children-in, children-small}
+use Rattle.lookup.proofs.child.Statement.{statement}
+use Rattle.lookup.proofs.child.Tie as tie
 
 children-table-requires : tie.Need-children-table-requires
 children-table-requires c κs = search needs

@@ -1,12 +1,12 @@
--- `tree::find::children` meets its contract. Assumes nothing.
+-- `lookup::children` meets its contract. Assumes nothing.
 use borrow.Author.Needs.{needs}
 use native.Mathlib.Omega.{arith}
 use mathlib.Core.Path.{_≡_, ap, _∙_}
 use lib.ListN.{length}
-use Rattle.tree.specs.Find.{belonging}
-use Rattle.tree.proofs.FindLaws.{children-in, children-small}
-use Rattle.tree.proofs.find.children.Statement.{statement}
-use Rattle.tree.proofs.find.children.Tie as tie
+use Rattle.lookup.specs.Find.{belonging}
+use Rattle.lookup.proofs.FindLaws.{children-in, children-small}
+use Rattle.lookup.proofs.children.Statement.{statement}
+use Rattle.lookup.proofs.children.Tie as tie
 
 children-table-requires : tie.Need-children-table-requires
 children-table-requires c κs = search needs

@@ -1,12 +1,12 @@
--- `tree::find::properties` meets its contract. Assumes nothing.
+-- `lookup::properties` meets its contract. Assumes nothing.
 use borrow.Author.Needs.{needs}
 use native.Mathlib.Omega.{arith}
 use mathlib.Core.Path.{_≡_, ap, _∙_}
 use lib.ListN.{length}
-use Rattle.tree.specs.Find.{belonging}
-use Rattle.tree.proofs.FindLaws.{properties-in, properties-small}
-use Rattle.tree.proofs.find.properties.Statement.{statement}
-use Rattle.tree.proofs.find.properties.Tie as tie
+use Rattle.lookup.specs.Find.{belonging}
+use Rattle.lookup.proofs.FindLaws.{properties-in, properties-small}
+use Rattle.lookup.proofs.properties.Statement.{statement}
+use Rattle.lookup.proofs.properties.Tie as tie
 
 properties-table-requires : tie.Need-properties-table-requires
 properties-table-requires c κs = search needs

@@ -1,9 +1,9 @@
--- `tree::find::count_in` meets its contract. Assumes nothing.
+-- `lookup::count_in` meets its contract. Assumes nothing.
 use Prim.Native.Nat.{_-_}
 use native.Mathlib.Omega.{arith}
-use Rattle.tree.proofs.FindLaws.{Counting, count-begins, count-fits, count-more, count-ends}
-use Rattle.tree.proofs.find.count_in.Statement.{statement}
-use Rattle.tree.proofs.find.count_in.Tie as tie
+use Rattle.lookup.proofs.FindLaws.{Counting, count-begins, count-fits, count-more, count-ends}
+use Rattle.lookup.proofs.count_in.Statement.{statement}
+use Rattle.lookup.proofs.count_in.Tie as tie
 
 abbrev Inv-loop : tie.InvT-loop
 Inv-loop tree table node n₀ k₀ n k = Counting tree table node n k

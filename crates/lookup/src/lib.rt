@@ -1,20 +1,21 @@
-// Lookups: the node of a path, a child by its node number, a property by its index, and how many of them there are.
-use super::Found;
-use super::NODE_SIZE;
-use super::PROPERTY_SIZE;
-use super::bytes;
-use super::record;
+// Lookups in a lent tree: the node of a path, a child by its node number, a property by its index, and how many of them there
+// are. Every call gets the tree as bytes (docs/FORMATS.md), sound or not.
 use protocol::NodeNumber;
 use protocol::PropertyIndex;
+use tree::Found;
+use tree::NODE_SIZE;
+use tree::PROPERTY_SIZE;
+use tree::bytes;
+use tree::record;
 ghost use mathlib.Core.Path.{_≡_};
 ghost use Prim.Native.Nat.{_+_, _*_, _<_};
 ghost use lib.ListN.{length, getD};
 ghost use mathlib.Core.Bool.{cond};
 ghost use lib.Dec.{eqb};
 ghost use Rattle.protocol.specs.Tree.{numbered, childrenOf, propertiesOf, childOf, propertyOf, nodeAt};
 ghost use Rattle.tree.specs.Seen.{seen};
-ghost use Rattle.tree.specs.Find.{belonging, childrenTable, propertiesTable};
 ghost use Rattle.tree.specs.Lookup.{foundOf};
+ghost use Rattle.lookup.specs.Find.{belonging, childrenTable, propertiesTable};
 
 // Records of one size, and which of them are looked at: from one place in the list to an end.
 pub(crate) struct Table {

@@ -13,10 +13,10 @@ use lib.Seq.{drop-cons}
 use lib.Dec.{eqb}
 use Rattle.protocol.specs.Bytes.{Bytes}
 use Rattle.protocol.specs.Tree.{Tree, placesFrom, numbered, childrenOf, propertiesOf, childOf, descend, nodeAt}
-use Rattle.tree.specs.declared.find.Table.{Table}
 use Rattle.tree.specs.Seen.{recordsFrom, seen, nodeSeen, propertySeen}
-use Rattle.tree.specs.Find.{belonging, childrenTable, propertiesTable}
 use Rattle.tree.proofs.RecordLaws.{records-length, first-at, records-drop, records-places}
+use Rattle.lookup.specs.declared.Table.{Table}
+use Rattle.lookup.specs.Find.{belonging, childrenTable, propertiesTable}
 
 -- The first bytes of the records of a table, and the places from k on of those that name a node.
 abbrev column : List ℕ → Table → List ℕ
