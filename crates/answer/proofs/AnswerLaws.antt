@@ -17,10 +17,11 @@ use Rattle.protocol.proofs.TestLaws.{and-left, and-right}
 use Rattle.protocol.proofs.RequestLaws.{fitting, path-most}
 use Rattle.protocol.proofs.AnswerLaws.{Texts, texts-short, node-size, record-size}
 use Rattle.tree.specs.Form.{treeForm}
-use Rattle.tree.specs.Seen.{seen, same, isTree}
+use Rattle.tree.specs.Seen.{seen, same}
+use Rattle.soundness.specs.Sound.{isTree}
 use Rattle.cells.specs.Cells.{cellsForm, withWord}
 use Rattle.cells.specs.Lent.{isLent}
-use Rattle.tree.proofs.FormLaws.{sound-parts}
+use Rattle.soundness.proofs.FormLaws.{sound-parts}
 use Rattle.cells.proofs.CellLaws.{word-stored}
 use Rattle.answer.specs.Serve.{actionNumber}
 use Rattle.answer.specs.Steps.{answerAsked, Refuses, Answers}

@@ -20,7 +20,8 @@ use Rattle.protocol.specs.Tree.{Property, Tree, Cell, cellIn, cellsSound, isLiv
 use Rattle.protocol.proofs.TestLaws.{and-left, and-right, and-both}
 use Rattle.protocol.proofs.ListLaws.{number-word, word-number, bytes-cons, bytes-drop, bytes-none, bytes-append}
 use Rattle.protocol.proofs.BufferLaws.{set-put, length-put}
-use Rattle.tree.specs.Seen.{wordAt, recordsFrom, same, seen, isTree}
+use Rattle.tree.specs.Seen.{wordAt, recordsFrom, same, seen}
+use Rattle.soundness.specs.Sound.{isTree}
 use Rattle.cells.specs.Cells.{cellSize, markOf, cellForm, cellsForm, cellSeen, cellsIn, hasCells, cellsOf, withWord, withMark}
 use Rattle.cells.specs.Lent.{isLent, lentNumber, postIn, Updates}
 use Rattle.tree.proofs.FoundLaws.{if-some}

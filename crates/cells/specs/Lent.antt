@@ -8,7 +8,8 @@ use lib.ListN.{length}
 use lib.Dec.{eqb, ltb}
 use Rattle.protocol.specs.Numbers.{done, unsound, badParameter, noReading}
 use Rattle.protocol.specs.Tree.{propertyIn, cellIn, reading, restored, post}
-use Rattle.tree.specs.Seen.{seen, isTree}
+use Rattle.tree.specs.Seen.{seen}
+use Rattle.soundness.specs.Sound.{isTree}
 use Rattle.cells.specs.Cells.{cellsForm, cellsIn, hasCells}
 use Rattle.cells.specs.declared.Reading.{Reading}
 use Rattle.cells.specs.declared.Reading.the-variants as reading-is

@@ -37,7 +37,7 @@ pub fn count(cells: &[u8]) -> usize
 pub fn check(tree: &[u8], cells: &[u8]) -> u8
     ensures { λ r. ⌜ r ≡ lentNumber (now (tree .entry)) (now (cells .entry)) ⌝ }
 {
-    if !tree::check::is_tree(tree) {
+    if !soundness::is_tree(tree) {
         return UNSOUND;
     }
     if !has_cells(cells) {

@@ -14,12 +14,13 @@ use Rattle.protocol.specs.Answer.{answer}
 use Rattle.protocol.proofs.TestLaws.{and-left, and-right, and-both}
 use Rattle.protocol.proofs.FrameLaws.{readFrame-frame, ifSized-sized, readDatagram-datagram}
 use Rattle.tree.specs.Form.{treeForm}
-use Rattle.tree.specs.Seen.{seen, same, isTree, treeOf}
+use Rattle.tree.specs.Seen.{seen, same}
+use Rattle.soundness.specs.Sound.{isTree, treeOf}
 use Rattle.cells.specs.Cells.{cellsForm, cellsIn, hasCells}
 use Rattle.cells.specs.Lent.{isLent}
 use Rattle.tree.proofs.FoundLaws.{if-some}
 use Rattle.tree.proofs.SameLaws.{same-eq}
-use Rattle.tree.proofs.FormLaws.{sound-parts, form-seen, form-tree}
+use Rattle.soundness.proofs.FormLaws.{sound-parts, form-seen, form-tree}
 use Rattle.cells.proofs.CellLaws.{inWidth, cells-in-form, cells-fit, has-form, lent-form}
 use Rattle.answer.specs.Serve.{inForm, Call, serving, dataCall, serialCall, udpCall}
 use Rattle.answer.proofs.ServeLaws.{serve-good}

@@ -17,7 +17,8 @@ use Rattle.protocol.proofs.FrameLaws.{readDatagram-refused}
 use Rattle.frame.proofs.UdpLaws.{data-from-4}
 use Rattle.request.specs.declared.Asked as declared
 use Rattle.request.specs.Asked.{AskedIs}
-use Rattle.tree.specs.Seen.{seen, isTree}
+use Rattle.tree.specs.Seen.{seen}
+use Rattle.soundness.specs.Sound.{isTree}
 use Rattle.cells.specs.Cells.{cellsIn}
 use Rattle.cells.specs.Lent.{isLent, lentNumber, readOf, readIn, Reads}
 use Rattle.cells.proofs.CellLaws.{lent-refused}

@@ -13,9 +13,10 @@ use Rattle.protocol.specs.Buffer.{over, Put}
 use Rattle.protocol.proofs.TestLaws.{and-right, and-both}
 use Rattle.protocol.proofs.BufferLaws.{set-put, put-nil, puts, over-put}
 use Rattle.tree.specs.Form.{treeForm}
-use Rattle.tree.specs.Seen.{seen, same, isTree}
+use Rattle.tree.specs.Seen.{seen, same}
+use Rattle.soundness.specs.Sound.{isTree}
 use Rattle.cells.specs.Cells.{cellSize}
-use Rattle.tree.proofs.FormLaws.{sound-parts}
+use Rattle.soundness.proofs.FormLaws.{sound-parts}
 use Rattle.pualirqiq.specs.Calls.{Zeroes, cellsSize, isCellsSized}
 
 -- The first bytes of a buffer cleared.

@@ -12,7 +12,8 @@ use Rattle.protocol.specs.Request.{Request, Asked}
 use Rattle.stream.specs.State.{stateLength}
 use Rattle.request.specs.Asked.{padded}
 use Rattle.cells.specs.Cells.{cellSize}
-use Rattle.tree.specs.Seen.{seen, isTree}
+use Rattle.tree.specs.Seen.{seen}
+use Rattle.soundness.specs.Sound.{isTree}
 
 -- A number as a truth: 0 is no, any other yes.
 abbrev pub truth : ℕ → Bool

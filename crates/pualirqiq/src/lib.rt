@@ -84,7 +84,7 @@ pub extern "C" fn pq_check(tree: &[u8], cells: &[u8]) -> u8
 pub extern "C" fn pq_check_tree(tree: &[u8]) -> u8
     ensures { λ r. ⌜ r ≡ treeNumber (now (tree .entry)) ⌝ }
 {
-    if tree::check::is_tree(tree) {
+    if soundness::is_tree(tree) {
         return DONE;
     }
     UNSOUND
@@ -95,7 +95,7 @@ pub extern "C" fn pq_check_tree(tree: &[u8]) -> u8
 pub extern "C" fn pq_cells_size(tree: &[u8]) -> usize
     ensures { λ r. ⌜ r ≡ cellsSize (now (tree .entry)) ⌝ }
 {
-    if !tree::check::is_tree(tree) {
+    if !soundness::is_tree(tree) {
         return 0;
     }
     tree::record::property_count(tree) * cells::CELL_SIZE
@@ -106,7 +106,7 @@ pub extern "C" fn pq_cells_size(tree: &[u8]) -> usize
 pub extern "C" fn pq_begin_cells(tree: &[u8], cells: &mut [u8]) -> u8
     ensures { λ r. ⌜ Zeroes (isCellsSized (now (tree .entry)) (now (cells .entry))) (cellsSize (now (tree .entry))) (now (cells .entry)) r (now (cells .exit)) ⌝ }
 {
-    if !tree::check::is_tree(tree) {
+    if !soundness::is_tree(tree) {
         return UNSOUND;
     }
     if cells.len() != tree::record::property_count(tree) * cells::CELL_SIZE {

@@ -25,7 +25,7 @@ use Rattle.tree.specs.Steps.{entries}
 use Rattle.tree.specs.Lookup.{FieldsAre}
 use Rattle.tree.proofs.RecordLaws.{records-length, records-at}
 use Rattle.tree.proofs.NumberLaws.{entries-at, entries-alike, half-behind, word-behind}
-use Rattle.tree.proofs.NodeLaws.{texts-one}
+use Rattle.tree.proofs.TextLaws.{texts-one}
 
 -- Where the record of a node begins, and that of a property.
 abbrev nodePlace : ℕ → ℕ

@@ -1,11 +1,10 @@
--- Answers that are there or not: a place that was found, one that a test let through, and one step behind another.
+-- Answers that are there or not: a place that was found, and one that a test let through.
 -- Assumes nothing.
 use Prim.Native.Nat.{ℕ}
 use mathlib.Core.Path.{_≡_, refl}
 use mathlib.Core.Bool.{Bool, true, false, cond}
 use mathlib.Core.Option.{Option, none, some, Option·none-ne-some}
 use Rattle.tree.specs.declared.Found.the-variants.{At, Nothing}
-use Rattle.tree.specs.Check.{andThen}
 use Rattle.tree.specs.Lookup.{foundOf}
 
 -- A place that was found, and none.
@@ -21,13 +20,3 @@ found-none (some n) h = cc
 pub if-some : {A : Type 0} (t : Bool) {o : Option A} {x : A} → cond t o none ≡ some x → (t ≡ true) × (o ≡ some x)
 if-some true h = (refl, h)
 if-some false h = absurd (Option·none-ne-some _ h)
-
--- Two steps, the second from where the first ended.
-pub then-some : {o : Option ℕ} (f : ℕ → Option ℕ) {n : ℕ} → o ≡ some n → andThen o f ≡ f n
-unfolding andThen
-then-some f e = rw e
-
-pub then-back : (o : Option ℕ) (f : ℕ → Option ℕ) {end : ℕ} → andThen o f ≡ some end → (n : ℕ) × ((o ≡ some n) × (f n ≡ some end))
-unfolding andThen
-then-back none f h = absurd (Option·none-ne-some _ h)
-then-back (some n) f h = (n, (refl, h))

@@ -3,4 +3,3 @@ pub mod Form
 pub mod Seen
 pub mod Lookup
 pub mod Steps
-pub mod Check

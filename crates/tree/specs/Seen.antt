@@ -3,14 +3,13 @@
 use Prim.Native.Nat.{ℕ, zero, suc, _+_, _%_}
 use mathlib.Core.Bool.{Bool, true, false, cond, _&&_}
 use mathlib.Core.List.{List, [], _∷_}
-use mathlib.Core.Option.{Option, none, some}
 use lib.ListN.{getD, take, drop}
 use lib.Dec.{eqb}
 use Rattle.protocol.specs.Numbers.{enumeration}
 use Rattle.protocol.specs.Bytes.{number}
 use Rattle.protocol.specs.Request.{beforeZero}
-use Rattle.protocol.specs.Tree.{Node, Property, Tree, sound}
-use Rattle.tree.specs.Form.{nodeSize, propertySize, propertiesStart, treeForm}
+use Rattle.protocol.specs.Tree.{Node, Property, Tree}
+use Rattle.tree.specs.Form.{nodeSize, propertySize, propertiesStart}
 
 -- Numbers of 16 and 32 bits at a place.
 unfoldable pub halfAt : ℕ → List ℕ → ℕ
@@ -77,11 +76,3 @@ same [] [] = true
 same [] (y ∷ ys) = false
 same (x ∷ xs) [] = false
 same (x ∷ xs) (y ∷ ys) = eqb x y && same xs ys
-
--- Bytes have a form where they are the form of the tree that is seen in them; so nothing lies past it. They stand for that
--- tree where it is sound too.
-unfoldable pub isTree : List ℕ → Bool
-isTree bs = same bs (treeForm (seen bs)) && sound (seen bs)
-
-unfoldable pub treeOf : List ℕ → Option Tree
-treeOf bs = cond (isTree bs) (some (seen bs)) none

@@ -14,10 +14,12 @@ pub fn byte_at(bs: &[u8], at: usize) -> u8
 }
 
 // A number of 16 bits at a place.
-pub(crate) fn half_at(bs: &[u8], at: usize) -> u16
-    requires { ⌜ at + 1 < 2 ^ 64 ⌝ }
+pub fn half_at(bs: &[u8], at: usize) -> u16
     ensures { λ r. ⌜ r ≡ halfAt at (now (bs .entry)) ⌝ }
 {
+    if bs.len() <= at {
+        return 0;
+    }
     word::half_of(byte_at(bs, at), byte_at(bs, at + 1))
 }
 

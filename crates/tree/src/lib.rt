@@ -1,9 +1,7 @@
-// The lent tree: the check, lookups, a property's fields and texts. Every call gets it as bytes (docs/FORMATS.md) and trusts
-// none of them.
+// The lent tree, and what is read from it: numbers at a place, a property's fields, the texts of nodes and properties. Every call
+// gets it as bytes (docs/FORMATS.md) and trusts none of them.
 pub mod bench;
 pub mod bytes;
-pub mod check;
-mod parents;
 pub mod record;
 mod texts;
 

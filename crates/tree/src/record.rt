@@ -93,7 +93,7 @@ pub fn properties_start(tree: &[u8]) -> usize
 }
 
 // How many texts are the unit or options.
-pub(crate) fn option_count(kind: u8, max: u32) -> usize
+pub fn option_count(kind: u8, max: u32) -> usize
     ensures { λ r. ⌜ r ≡ optionCount kind max ⌝ }
 {
     if kind == ENUMERATION {

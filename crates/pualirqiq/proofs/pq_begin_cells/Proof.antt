@@ -5,7 +5,7 @@ use mathlib.Core.Path.{_≡_, sym, ap, _∙_}
 use mathlib.Core.Bool.{true}
 use borrow.Author.Needs.{needs}
 use borrow.Author.Tests.{not-true, not-false}
-use Rattle.tree.specs.Seen.{isTree}
+use Rattle.soundness.specs.Sound.{isTree}
 use Rattle.pualirqiq.specs.Calls.{cellsSize, isCellsSized}
 use Rattle.pualirqiq.proofs.CallLaws.{few-properties, size-sound, cells-unsound, cells-sized, cells-other, zeroes-right, zeroes-wrong}
 use Rattle.pualirqiq.proofs.pq_begin_cells.Statement.{statement}

@@ -5,7 +5,7 @@ use mathlib.Core.Path.{_≡_, sym, ap, _∙_}
 use mathlib.Core.Bool.{true}
 use borrow.Author.Needs.{needs}
 use borrow.Author.Tests.{not-true, not-false}
-use Rattle.tree.specs.Seen.{isTree}
+use Rattle.soundness.specs.Sound.{isTree}
 use Rattle.pualirqiq.proofs.CallLaws.{few-properties, size-sound, size-none}
 use Rattle.pualirqiq.proofs.pq_cells_size.Statement.{statement}
 use Rattle.pualirqiq.proofs.pq_cells_size.Tie as tie

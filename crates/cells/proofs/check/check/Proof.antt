@@ -4,7 +4,8 @@ use mathlib.Core.Bool.{true}
 use borrow.Author.Tests.{not-true, not-false, eq-eqb, ne-eqb}
 use borrow.Author.Needs.{needs}
 use lib.ListN.{length}
-use Rattle.tree.specs.Seen.{seen, isTree}
+use Rattle.tree.specs.Seen.{seen}
+use Rattle.soundness.specs.Sound.{isTree}
 use Rattle.cells.specs.Cells.{cellsIn, hasCells}
 use Rattle.tree.proofs.SameLaws.{differ}
 use Rattle.cells.proofs.CellLaws.{lent-by}

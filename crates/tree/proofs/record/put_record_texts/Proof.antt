@@ -68,7 +68,7 @@ add-half-at : tie.Need-add-half-at
 add-half-at c = omega (arith, near (c .before .before .before))
 
 half-at-requires : tie.Need-half-at-requires
-half-at-requires c κs = omega (arith, near (c .before .before .before))
+half-at-requires c κs = search needs
 
 cast-from : tie.Need-cast-from
 cast-from c = search needs
