@@ -1,5 +1,5 @@
--- Bytes pass the check exactly where they stand for a sound tree, and every sound tree's form reads back as that tree; and what the
--- proofs of this crate's functions apply to the places of their code.
+-- Bytes pass the check exactly where they stand for a sound tree, and every sound tree's form reads back as that tree; and what
+-- the proofs of this crate's functions apply to the places of their code.
 pub mod ThenLaws
 pub mod ScanLaws
 pub mod TableLaws

@@ -21,7 +21,7 @@ unfolding texts
 texts-one s = append-nil (text s)
 
 -- One byte in front of texts: a zero ends the first of them, any other byte begins it.
-pub texts-zero : (n : ℕ) (xs : List ℕ) → textsFrom (suc n) (0 ∷ xs) ≡ [] ∷ textsFrom n xs
+texts-zero : (n : ℕ) (xs : List ℕ) → textsFrom (suc n) (0 ∷ xs) ≡ [] ∷ textsFrom n xs
 unfolding textsFrom beforeZero
 texts-zero n xs = refl
 
