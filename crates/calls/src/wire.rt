@@ -11,8 +11,8 @@ use frame::Written;
 
 fn datagram(d: &[u8], out: &mut [u8]) -> Written {
     Written {
-        number: frame::udp::datagram_number(d),
-        len: frame::buffer::put_all(frame::udp::datagram_data(d), out, 0),
+        number: datagram::number_of(d),
+        len: frame::buffer::put_all(datagram::data_of(d), out, 0),
     }
 }
 
@@ -30,7 +30,7 @@ pub(crate) fn run(n: Numbers, string: &[u8], lent: &mut [u8], out: &mut [u8]) ->
         0x10 => frame::write::write_frame(n.address, string, out),
         0x11 => frame::read::read_frame(n.address, string, out),
         0x12 => datagram(string, out),
-        0x13 => frame::udp::write_datagram(string, out),
+        0x13 => datagram::write_datagram(string, out),
         0x14 => deliver(lent, n.address, string, out),
         _ => Written {
             number: 0,

@@ -4,4 +4,3 @@ pub mod WriteLaws
 pub mod ReadLaws
 pub mod CheckLaws
 pub mod ContentLaws
-pub mod UdpLaws

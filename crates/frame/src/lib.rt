@@ -1,9 +1,8 @@
-// PENKO's TP: frames over serial and datagrams over UDP, written and read.
+// PENKO's TP over serial: frames, written and read.
 pub mod buffer;
 mod checksum;
 pub mod read;
 pub mod size;
-pub mod udp;
 pub mod write;
 
 // What a call that writes into a lent output returns: a number of document 01, and the length of what it wrote.

@@ -14,7 +14,7 @@ use Rattle.protocol.specs.Frame.{readDatagram}
 use Rattle.protocol.specs.Request.{Asked}
 use Rattle.protocol.specs.Tree.{propertyIn, cellIn, reading}
 use Rattle.protocol.proofs.FrameLaws.{readDatagram-refused}
-use Rattle.frame.proofs.UdpLaws.{data-from-4}
+use Rattle.datagram.proofs.UdpLaws.{data-from-4}
 use Rattle.request.specs.declared.Asked as declared
 use Rattle.request.specs.Asked.{AskedIs}
 use Rattle.tree.specs.Seen.{seen}

@@ -222,7 +222,7 @@ pub extern "C" fn pq_frame(address: u8, payload: &[u8], out: &mut [u8], len: &mu
 pub extern "C" fn pq_datagram(payload: &[u8], out: &mut [u8], len: &mut usize) -> u8
     ensures { λ r. ⌜ Emits (ifRoom roomUdp (length (now (out .entry))) (writeDatagram (now (payload .entry)))) (now (out .entry)) r (now (len .exit)) (now (out .exit)) ⌝ }
 {
-    let packet = frame::udp::write_datagram(payload, out);
+    let packet = datagram::write_datagram(payload, out);
     *len = packet.len;
     packet.number
 }
@@ -242,7 +242,7 @@ pub extern "C" fn pq_read_frame(address: u8, string: &[u8], out: &mut [u8], len:
 pub extern "C" fn pq_datagram_data(datagram: &[u8], offset: &mut usize, len: &mut usize) -> u8
     ensures { λ r. ⌜ Locates (readDatagram (now (datagram .entry))) (now (datagram .entry)) r (now (offset .exit)) (now (len .exit)) ⌝ }
 {
-    let number = frame::udp::datagram_number(datagram);
+    let number = datagram::number_of(datagram);
     if number != DONE {
         *offset = 0;
         *len = 0;

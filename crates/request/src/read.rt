@@ -133,9 +133,9 @@ pub fn read_serial(address: u8, s: &[u8]) -> Asked
 pub fn read_udp(d: &[u8]) -> Asked
     ensures { λ r. ⌜ AskedIs (readUdp (now (d .entry))) r ⌝ }
 {
-    let number = frame::udp::datagram_number(d);
+    let number = datagram::number_of(d);
     if number != DONE {
         return refusal(number);
     }
-    read_data(frame::udp::datagram_data(d))
+    read_data(datagram::data_of(d))
 }

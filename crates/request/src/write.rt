@@ -123,5 +123,5 @@ pub fn write_udp(op: u8, path: &[u8], index: PropertyIndex, value: u32, out: &mu
     if put.number != DONE {
         return put;
     }
-    frame::udp::write_datagram(&payload[..put.len], out)
+    datagram::write_datagram(&payload[..put.len], out)
 }

@@ -1,10 +1,10 @@
--- `frame::udp::put_zeros` meets its contract. Assumes nothing.
+-- `datagram::put_zeros` meets its contract. Assumes nothing.
 use native.Mathlib.Omega.{arith}
 use borrow.Author.Needs.{needs}
 use lib.ListN.{length-set}
-use Rattle.frame.proofs.UdpLaws.{zeros-over}
-use Rattle.frame.proofs.udp.put_zeros.Statement.{statement}
-use Rattle.frame.proofs.udp.put_zeros.Tie as tie
+use Rattle.datagram.proofs.UdpLaws.{zeros-over}
+use Rattle.datagram.proofs.put_zeros.Statement.{statement}
+use Rattle.datagram.proofs.put_zeros.Tie as tie
 
 slice-write-out : tie.Need-slice-write-out
 slice-write-out c = search needs

@@ -1,7 +1,7 @@
-// Datagrams, checked and written.
-use super::Written;
-use super::buffer;
-use super::size;
+// PENKO's TP over UDP: datagrams, checked and written.
+use frame::Written;
+use frame::buffer;
+use frame::size;
 use protocol::DONE;
 use protocol::NO_PREAMBLE;
 use protocol::NO_ROOM;
@@ -34,7 +34,7 @@ fn four_zeros(d: &[u8]) -> bool
 }
 
 // The number of a datagram: 2, 4, 5 or 0.
-pub fn datagram_number(d: &[u8]) -> u8
+pub fn number_of(d: &[u8]) -> u8
     ensures { λ r. ⌜ r ≡ readDatagram (now (d .entry)) .number ⌝ }
 {
     if !four_zeros(d) {
@@ -44,17 +44,17 @@ pub fn datagram_number(d: &[u8]) -> u8
 }
 
 // The data of a datagram: that part of the datagram itself, from byte 4 on; of a refused one an empty part.
-pub fn datagram_data(d: &[u8]) -> &[u8]
+pub fn data_of(d: &[u8]) -> &[u8]
     ensures { λ r. ⌜ now r ≡ readDatagram (now (d .entry)) .payload ⌝ }
 {
-    if datagram_number(d) != DONE {
+    if number_of(d) != DONE {
         return &d[..0];
     }
     &d[4..]
 }
 
 // The four zero bytes at the front of a datagram whose data stands behind them.
-pub(crate) fn put_zeros(out: &mut [u8])
+fn put_zeros(out: &mut [u8])
     requires { ⌜ 4 ≤ length (now out) ⌝ }
     ensures { λ _. ⌜ now (out .exit) ≡ over (0 ∷ 0 ∷ 0 ∷ 0 ∷ []) (now (out .entry)) ⌝ }
 {

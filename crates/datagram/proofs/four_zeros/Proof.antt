@@ -1,8 +1,8 @@
--- `frame::udp::four_zeros` meets its contract. Assumes nothing.
+-- `datagram::four_zeros` meets its contract. Assumes nothing.
 use borrow.Author.Needs.{needs}
-use Rattle.frame.proofs.UdpLaws.{zeros-short, zeros-not-0, zeros-not-1, zeros-not-2, zeros-last}
-use Rattle.frame.proofs.udp.four_zeros.Statement.{statement}
-use Rattle.frame.proofs.udp.four_zeros.Tie as tie
+use Rattle.datagram.proofs.UdpLaws.{zeros-short, zeros-not-0, zeros-not-1, zeros-not-2, zeros-last}
+use Rattle.datagram.proofs.four_zeros.Statement.{statement}
+use Rattle.datagram.proofs.four_zeros.Tie as tie
 
 returns : tie.Need-returns
 returns c = zeros-short (c .before .args .d .now) (c .if1 .taken)

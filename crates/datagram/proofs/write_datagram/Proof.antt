@@ -1,4 +1,4 @@
--- `frame::udp::write_datagram` meets its contract. Assumes nothing.
+-- `datagram::write_datagram` meets its contract. Assumes nothing.
 use Prim.Native.Nat.{_-_}
 use native.Mathlib.Omega.{arith}
 use mathlib.Core.Path.{sym, ap, _∙_}
@@ -8,9 +8,9 @@ use Rattle.protocol.specs.Numbers.{roomUdp}
 use Rattle.protocol.specs.Buffer.{Put}
 use Rattle.protocol.proofs.FrameLaws.{size-only}
 use Rattle.protocol.proofs.BufferLaws.{emits-no-room, emits-in-room, emits-unsized, emits-sized, part-lent, put-fits}
-use Rattle.frame.proofs.UdpLaws.{emits-datagram}
-use Rattle.frame.proofs.udp.write_datagram.Statement.{statement}
-use Rattle.frame.proofs.udp.write_datagram.Tie as tie
+use Rattle.datagram.proofs.UdpLaws.{emits-datagram}
+use Rattle.datagram.proofs.write_datagram.Statement.{statement}
+use Rattle.datagram.proofs.write_datagram.Tie as tie
 
 -- Data of a good size fits the part.
 whole : (c : tie.After-put-all)

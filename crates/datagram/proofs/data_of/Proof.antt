@@ -1,19 +1,19 @@
--- `frame::udp::datagram_data` meets its contract. Assumes nothing.
+-- `datagram::data_of` meets its contract. Assumes nothing.
 use Prim.Native.Nat.{_≤_}
 use mathlib.Core.Path.{sym, _∙_}
 use borrow.Author.Needs.{needs}
 use lib.ListN.{length}
 use Rattle.protocol.proofs.FrameLaws.{readDatagram-refused}
-use Rattle.frame.proofs.UdpLaws.{data-from-4, data-long}
-use Rattle.frame.proofs.udp.datagram_data.Statement.{statement}
-use Rattle.frame.proofs.udp.datagram_data.Tie as tie
+use Rattle.datagram.proofs.UdpLaws.{data-from-4, data-long}
+use Rattle.datagram.proofs.data_of.Statement.{statement}
+use Rattle.datagram.proofs.data_of.Tie as tie
 
 -- A datagram that passes has four bytes and more.
 long : (c : tie.Else1) → 4 ≤ length (c .before .before .before .args .d .now)
-long c = data-long (c .before .before .before .args .d .now) (sym (c .before .datagram-number .ensures) ∙ c .if1 .left)
+long c = data-long (c .before .before .before .args .d .now) (sym (c .before .number-of .ensures) ∙ c .if1 .left)
 
-datagram-number-requires : tie.Need-datagram-number-requires
-datagram-number-requires c κs = search needs
+number-of-requires : tie.Need-number-of-requires
+number-of-requires c κs = search needs
 
 slice-aggregate-result : tie.Need-slice-aggregate-result
 slice-aggregate-result c = search needs
@@ -21,7 +21,7 @@ slice-aggregate-result c = search needs
 returns : tie.Need-returns
 returns c =
     let number = c .before .before in
-    sym (readDatagram-refused (number .before .before .args .d .now) (λ e. c .before .if1 .taken (number .datagram-number .ensures ∙ e)))
+    sym (readDatagram-refused (number .before .before .args .d .now) (λ e. c .before .if1 .taken (number .number-of .ensures ∙ e)))
 
 sub-result : tie.Need-sub-result
 sub-result c = long c
@@ -35,13 +35,13 @@ part-result-end c = search needs
 returns-2 : tie.Need-returns-2
 returns-2 c =
     let number = c .before .before in
-    data-from-4 (number .before .before .args .d .now) (sym (number .datagram-number .ensures) ∙ c .before .if1 .left)
+    data-from-4 (number .before .before .args .d .now) (sym (number .number-of .ensures) ∙ c .before .if1 .left)
 
-pub datagram-data-spec : {M : Type 1} → statement M
-datagram-data-spec =
+pub data-of-spec : {M : Type 1} → statement M
+data-of-spec =
     tie.close
     (tie.spec
-    datagram-number-requires
+    number-of-requires
     slice-aggregate-result
     returns
     sub-result

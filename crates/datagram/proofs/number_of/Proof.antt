@@ -1,12 +1,12 @@
--- `frame::udp::datagram_number` meets its contract. Assumes nothing.
+-- `datagram::number_of` meets its contract. Assumes nothing.
 use mathlib.Core.Path.{_≡_, sym, _∙_}
 use mathlib.Core.Bool.{true}
 use borrow.Author.Tests.{not-true, not-false}
 use borrow.Author.Needs.{needs}
 use Rattle.protocol.specs.Frame.{fourZeros}
-use Rattle.frame.proofs.UdpLaws.{number-unopened, zeros-long, number-opened}
-use Rattle.frame.proofs.udp.datagram_number.Statement.{statement}
-use Rattle.frame.proofs.udp.datagram_number.Tie as tie
+use Rattle.datagram.proofs.UdpLaws.{number-unopened, zeros-long, number-opened}
+use Rattle.datagram.proofs.number_of.Statement.{statement}
+use Rattle.datagram.proofs.number_of.Tie as tie
 
 -- Behind the test the datagram begins with four zeros.
 front : (c : tie.Else1) → fourZeros (c .before .before .before .args .d .now) ≡ true
@@ -27,6 +27,6 @@ size-number-requires c κs = search needs
 returns-2 : tie.Need-returns-2
 returns-2 c = c .size-number .ensures ∙ number-opened (c .before .before .before .before .args .d .now) (front (c .before))
 
-pub datagram-number-spec : {M : Type 1} → statement M
-datagram-number-spec =
+pub number-of-spec : {M : Type 1} → statement M
+number-of-spec =
     tie.close (tie.spec four-zeros-requires returns sub-size-number size-number-requires returns-2)
