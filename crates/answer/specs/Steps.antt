@@ -6,10 +6,9 @@ use mathlib.Core.List.{List, [], _∷_}
 use lib.ListN.{take}
 use Rattle.protocol.specs.Numbers.{done, disabled, noAction, maxDepth}
 use Rattle.protocol.specs.Buffer.{Put}
-use Rattle.protocol.specs.Request.{Request, Asked, allowance}
+use Rattle.protocol.specs.Request.{Request, requestOf, Asked, allowance}
 use Rattle.protocol.specs.Tree.{Tree, Cell}
 use Rattle.protocol.specs.Answer.{Answer, refuse, refusalCode, ifAsked}
-use Rattle.request.specs.Asked.{requestOf}
 use Rattle.request.specs.declared.Asked as declared
 use Rattle.cells.specs.Cells.{cellsForm}
 use Rattle.answer.specs.Serve.{actionNumber}

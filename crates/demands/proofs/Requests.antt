@@ -14,11 +14,11 @@ use Rattle.protocol.specs.Numbers.{done, unknownCommand, badParameter, opWriteE
 use Rattle.protocol.specs.Bytes.{Bytes}
 use Rattle.protocol.specs.Frame.{ifRoom, ifDone, received, refused}
 use Rattle.protocol.specs.Buffer.{over, Emits}
-use Rattle.protocol.specs.Request.{Request, Asked, Allowed, allowance, fits, serialForm, udpForm, readSerial, readUdp}
+use Rattle.protocol.specs.Request.{Request, requestOf, Asked, Allowed, allowance, fits, serialForm, udpForm, readSerial, readUdp}
 use Rattle.protocol.proofs.ListLaws.{bytes-left}
 use Rattle.protocol.proofs.BufferLaws.{over-nil, over-front}
 use Rattle.protocol.proofs.RequestLaws.{serial-exact, udp-exact, serialForm-injective, udpForm-injective}
-use Rattle.request.specs.Asked.{requestOf, found, padded}
+use Rattle.request.specs.Asked.{found, padded}
 use Rattle.request.specs.Write.{writeRequest}
 use Rattle.pualirqiq.specs.Calls.{Handed, fieldsOf, HandsBack}
 use Rattle.demands.specs.Requests.{Wrote, WroteNothing, Requests}

@@ -58,7 +58,16 @@ fitting r h = go (ltb opWriteExtended (r .op)) refl (fits r) refl
 pub allowed : (r : Request) → Fitting r → Allowed r
 allowed r h = allowance-by r false true (le-ltb opWriteExtended (r .op) (h .op)) (h .rest)
 
--- Where a list has a zero, the first one parts it.
+-- The first zero of a list stands within it or at its end. Where there is one, it parts the list.
+pub zero-within : (bs : List ℕ) → beforeZero bs ≤ length bs
+unfolding beforeZero
+zero-within [] = omega arith
+zero-within (b ∷ bs) = go (eqb b 0) (zero-within bs)
+  where
+    go : (t : Bool) → beforeZero bs ≤ length bs → cond t 0 (suc (beforeZero bs)) ≤ suc (length bs)
+    go true h = omega arith
+    go false h = omega arith
+
 zero-parts : (bs : List ℕ) → beforeZero bs < length bs → bs ≡ take (beforeZero bs) bs ++ 0 ∷ drop (suc (beforeZero bs)) bs
 unfolding beforeZero
 zero-parts [] h = absurd (not-suc-le-zero h)
@@ -174,7 +183,7 @@ pub readValued-by : (op : ℕ) (bs : List ℕ) (t : Bool) → eqb (length (drop 
     → readValued op bs
     ≡ cond t (askedIf (onIndex op (number (drop (suc (beforeZero bs)) bs)) (take (beforeZero bs) bs))) (declined badParameter)
 unfolding readValued readIndexed
-readValued-by op bs t e = rw e
+readValued-by op bs t e = rw e refl
 
 readValued-only : (op : ℕ) (bs : List ℕ) → Bytes bs → asksValue op ≡ true → readValued op bs .number ≡ done
     → Read op bs (readValued op bs)

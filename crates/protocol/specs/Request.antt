@@ -16,6 +16,10 @@ pub record Request : Type 0 where
   pub index : ℕ
   pub value : ℕ
 
+-- The request of an op, a path, an index and a value.
+abbrev pub requestOf : ℕ → List ℕ → ℕ → ℕ → Request
+requestOf op path index value = record { op = op; path = path; index = index; value = value }
+
 -- A nonzero byte.
 abbrev pub nonzero : ℕ → Bool
 nonzero b = ltb 0 b && ltb b byteEnd
@@ -79,7 +83,7 @@ pub record Asked : Type 0 where
   pub request : Request
 
 abbrev pub noRequest : Request
-noRequest = record { op = 0; path = []; index = 0; value = 0 }
+noRequest = requestOf 0 [] 0 0
 
 abbrev pub declined : ℕ → Asked
 declined n = record { number = n; request = noRequest }
@@ -95,14 +99,7 @@ beforeZero (b ∷ bs) = cond (eqb b 0) 0 (suc (beforeZero bs))
 
 -- Path and index, the index last, with a value beside them.
 unfoldable pub readIndexed : ℕ → ℕ → List ℕ → Asked
-readIndexed op value bs =
-    askedIf
-    (record {
-      op = op;
-      path = take (length bs - 1) bs;
-      index = getD bs (length bs - 1) 0;
-      value = value;
-    })
+readIndexed op value bs = askedIf (requestOf op (take (length bs - 1) bs) (getD bs (length bs - 1) 0) value)
 
 -- Ops 4 and 5: the first zero ends path and index, and exactly four bytes follow it.
 unfoldable pub readValued : ℕ → List ℕ → Asked
@@ -116,7 +113,7 @@ unfoldable pub readShape : ℕ → List ℕ → Asked
 readShape op bs =
     cond (asksValue op)
     (readValued op bs)
-    (cond (asksIndex op) (readIndexed op 0 bs) (askedIf (record { op = op; path = bs; index = 0; value = 0 })))
+    (cond (asksIndex op) (readIndexed op 0 bs) (askedIf (requestOf op bs 0 0)))
 
 -- Data read as a request: rows 10 and 11. B4 by itself is 11. (No call comes here with no bytes: that is 4.)
 unfoldable pub readRequest : List ℕ → Asked

@@ -15,11 +15,11 @@ use Rattle.protocol.specs.Numbers.{done, unknownCommand, badParameter, PDI, opN
 use Rattle.protocol.specs.Bytes.{number}
 use Rattle.protocol.specs.Frame.{Received, readFrame, cut, readDatagram}
 use Rattle.protocol.specs.Buffer.{over, Put, Emits}
-use Rattle.protocol.specs.Request.{Request, Asked, asksIndex, asksValue, fits, declined, askedIf, beforeZero, readIndexed, readValued, readShape, readRequest, readPayload, readSerial, readUdp}
+use Rattle.protocol.specs.Request.{Request, requestOf, Asked, asksIndex, asksValue, fits, declined, askedIf, beforeZero, readIndexed, readValued, readShape, readRequest, readPayload, readSerial, readUdp}
 use Rattle.protocol.proofs.BufferLaws.{over-put, over-front}
 use Rattle.protocol.proofs.RequestLaws.{askedIf-by, readValued-by, readShape-by, readRequest-by, readRequest-one, readPayload-by, path-most}
 use Rattle.request.specs.declared.Asked as declared
-use Rattle.request.specs.Asked.{requestOf, found, padded, AskedIs}
+use Rattle.request.specs.Asked.{found, padded, AskedIs}
 
 -- What is handed back for a reading, where two readings are the same.
 carry : {a b : Asked} {x : declared.Asked} → b ≡ a → AskedIs a x → AskedIs b x

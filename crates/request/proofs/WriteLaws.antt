@@ -9,15 +9,14 @@ use borrow.Author.Tests.{eqb-true, eqb-false, ltb-false, eq-eqb, ne-eqb, lt-ltb,
 use lib.ListN.{length, take, drop}
 use lib.Seq.{take-at, length-take-le}
 use lib.Dec.{eqb, ltb}
-use Rattle.protocol.specs.Numbers.{done, noRoom, roomSerial, roomUdp, PDI, opNode, opRead}
+use Rattle.protocol.specs.Numbers.{done, noRoom, unknownCommand, badParameter, roomSerial, roomUdp, PDI, opNode, opRead, opWriteExtended}
 use Rattle.protocol.specs.Bytes.{word}
 use Rattle.protocol.specs.Frame.{Received, received, refused, Sized, frame, datagram, ifSized, ifDone, ifRoom, writeFrame, writeDatagram}
 use Rattle.protocol.specs.Buffer.{putAt, fitting, Put, Emits}
-use Rattle.protocol.specs.Request.{Request, allowance, Allowed, dataOf, serialForm, udpForm}
+use Rattle.protocol.specs.Request.{Request, requestOf, fits, allowance, Allowed, dataOf, serialForm, udpForm}
 use Rattle.protocol.proofs.BufferLaws.{put-room, over-put, over-nil, emits-refused, emits-no-room, emits-in-room}
 use Rattle.protocol.proofs.FrameLaws.{ifSized-sized}
 use Rattle.protocol.proofs.RequestLaws.{dataOf-size, dataOf-sized}
-use Rattle.request.specs.Asked.{requestOf}
 use Rattle.request.specs.Write.{writeRequest}
 
 -- The data of a request by what its op asks for.
@@ -38,6 +37,20 @@ module _ (op : ℕ) (path : List ℕ) (index value : ℕ) where
 pub length-word : (n : ℕ) → length (word n) ≡ 4
 unfolding word
 length-word n = refl
+
+-- What writing answers for a request, test by test.
+module _ (r : Request) where
+  pub allow-unknown : opWriteExtended < r .op → unknownCommand ≡ allowance r
+  unfolding allowance
+  allow-unknown h = sym (rw (lt-ltb opWriteExtended (r .op) h))
+
+  pub allow-unfit : r .op ≤ opWriteExtended → {t : Bool} → t ≡ fits r → t ≡ false → badParameter ≡ allowance r
+  unfolding allowance
+  allow-unfit h e f = sym (rw (le-ltb opWriteExtended (r .op) h, sym e ∙ f))
+
+  pub allow-fit : r .op ≤ opWriteExtended → {t : Bool} → t ≡ fits r → t ≡ true → done ≡ allowance r
+  unfolding allowance
+  allow-fit h e f = sym (rw (le-ltb opWriteExtended (r .op) h, sym e ∙ f))
 
 -- A request written out: with no room, what the table does not allow, and what it allows.
 module _ (least room : ℕ) (form : Request → List ℕ) (r : Request) (old : List ℕ) where

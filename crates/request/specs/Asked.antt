@@ -8,10 +8,7 @@ use Rattle.protocol.specs.Buffer.{over}
 use Rattle.protocol.specs.Request.{Request, Asked}
 use Rattle.request.specs.declared.Asked as declared
 
--- A request of four arguments, and the reading that finds it.
-abbrev pub requestOf : ℕ → List ℕ → ℕ → ℕ → Request
-requestOf op path index value = record { op = op; path = path; index = index; value = value }
-
+-- The reading that finds a request.
 abbrev pub found : Request → Asked
 found r = record { number = done; request = r }
 

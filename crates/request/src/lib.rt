@@ -1,6 +1,5 @@
 // PDI requests: read from serial strings and datagrams, and written out as them.
 pub mod read;
-mod table;
 pub mod write;
 
 use protocol::PropertyIndex;

@@ -1,6 +1,5 @@
 // Requests, read.
 use super::Asked;
-use super::table;
 use protocol::BAD_PARAMETER;
 use protocol::DONE;
 use protocol::OP_NODE;
@@ -12,8 +11,8 @@ use protocol::UNKNOWN_COMMAND;
 ghost use Prim.Native.Nat.{_+_, _-_, _≤_, _<_};
 ghost use lib.ListN.{length};
 ghost use Rattle.protocol.specs.Bytes.{number};
-ghost use Rattle.protocol.specs.Request.{declined, askedIf, readIndexed, readValued, readShape, readRequest, readSerial, readUdp};
-ghost use Rattle.request.specs.Asked.{AskedIs, requestOf, found};
+ghost use Rattle.protocol.specs.Request.{requestOf, declined, askedIf, readIndexed, readValued, readShape, readRequest, readSerial, readUdp};
+ghost use Rattle.request.specs.Asked.{AskedIs, found};
 
 // A refusal.
 fn refusal(number: u8) -> Asked

@@ -1,5 +1,4 @@
 // Requests, written out.
-use super::table;
 use frame::Written;
 use frame::buffer;
 use protocol::BAD_PARAMETER;
@@ -20,8 +19,7 @@ ghost use lib.ListN.{length};
 ghost use Rattle.protocol.specs.Numbers.{roomSerial, roomUdp};
 ghost use Rattle.protocol.specs.Bytes.{word};
 ghost use Rattle.protocol.specs.Buffer.{fitting, Put, Emits};
-ghost use Rattle.protocol.specs.Request.{allowance, dataOf, serialForm, udpForm};
-ghost use Rattle.request.specs.Asked.{requestOf};
+ghost use Rattle.protocol.specs.Request.{requestOf, allowance, dataOf, serialForm, udpForm};
 ghost use Rattle.request.specs.Write.{writeRequest};
 
 // An index, and a value behind a zero, the high byte first.

@@ -18,6 +18,7 @@ use Rattle.protocol.specs.Tree.{Property, isSigned, isText, isName, liveSound, 
 use Rattle.protocol.specs.Answer.{recordTexts}
 use Rattle.protocol.proofs.TestLaws.{and-left, and-right, and-both}
 use Rattle.protocol.proofs.ListLaws.{number-word}
+use Rattle.protocol.proofs.RequestLaws.{zero-within}
 use Rattle.tree.specs.Form.{propertySize, propertyRecord}
 use Rattle.tree.specs.Seen.{halfAt, wordAt, firstText, afterText, textsFrom, optionCount, propertySeen, nodeCount}
 use Rattle.tree.specs.Steps.{entries}
@@ -31,15 +32,6 @@ use Rattle.soundness.proofs.NumberLaws.{take-entries, number-half, half
 use Rattle.soundness.proofs.NodeLaws.{length-text, name-text, Named, name-back, name-forth}
 
 -- The first text ends with the first zero, or with the bytes.
-zero-within : (x : List ℕ) → beforeZero x ≤ length x
-unfolding beforeZero
-zero-within [] = omega arith
-zero-within (b ∷ x) = go (eqb b 0) (zero-within x)
-  where
-    go : (t : Bool) → beforeZero x ≤ length x → cond t 0 (suc (beforeZero x)) ≤ suc (length x)
-    go true h = omega arith
-    go false h = omega arith
-
 length-first : (x : List ℕ) → length (firstText x) ≡ beforeZero x
 length-first x = length-take-le (beforeZero x) x (zero-within x)
 

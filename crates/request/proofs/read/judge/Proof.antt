@@ -2,9 +2,8 @@
 use mathlib.Core.Path.{sym, _∙_}
 use borrow.Author.Tests.{not-true, not-false}
 use borrow.Author.Needs.{needs}
-use Rattle.protocol.specs.Request.{Request}
+use Rattle.protocol.specs.Request.{Request, requestOf}
 use Rattle.protocol.proofs.RequestLaws.{path-most}
-use Rattle.request.specs.Asked.{requestOf}
 use Rattle.request.proofs.ReadLaws.{asked-fit, asked-unfit}
 use Rattle.request.proofs.read.judge.Statement.{statement}
 use Rattle.request.proofs.read.judge.Tie as tie

@@ -1,7 +1,7 @@
 -- `request::read::read_valued` meets its contract. Assumes nothing.
 use native.Mathlib.Omega.{arith}
 use borrow.Author.Needs.{needs}
-use Rattle.request.proofs.TableLaws.{zero-within}
+use Rattle.protocol.proofs.RequestLaws.{zero-within}
 use Rattle.request.proofs.WriteLaws.{part-size}
 use Rattle.request.proofs.ReadLaws.{valued-other, valued-whole}
 use Rattle.request.proofs.read.read_valued.Statement.{statement}

@@ -1,9 +1,8 @@
 -- `request::write::allowance_of` meets its contract. Assumes nothing.
 use borrow.Author.Tests.{not-true, not-false}
 use borrow.Author.Needs.{needs}
-use Rattle.protocol.specs.Request.{Request}
-use Rattle.request.specs.Asked.{requestOf}
-use Rattle.request.proofs.TableLaws.{allow-unknown, allow-unfit, allow-fit}
+use Rattle.protocol.specs.Request.{Request, requestOf}
+use Rattle.request.proofs.WriteLaws.{allow-unknown, allow-unfit, allow-fit}
 use Rattle.request.proofs.write.allowance_of.Statement.{statement}
 use Rattle.request.proofs.write.allowance_of.Tie as tie
 

@@ -2,10 +2,9 @@
 use native.Mathlib.Omega.{arith}
 use mathlib.Core.Path.{sym, _∙_}
 use borrow.Author.Needs.{needs}
-use Rattle.protocol.specs.Request.{Request, Allowed, dataOf}
+use Rattle.protocol.specs.Request.{Request, requestOf, Allowed, dataOf}
 use Rattle.protocol.proofs.BufferLaws.{put-emits, put-fits}
 use Rattle.protocol.proofs.RequestLaws.{dataOf-size}
-use Rattle.request.specs.Asked.{requestOf}
 use Rattle.request.proofs.WriteLaws.{emits-unroomed, emits-unallowed, emits-allowed}
 use Rattle.request.proofs.write.data_for.Statement.{statement}
 use Rattle.request.proofs.write.data_for.Tie as tie

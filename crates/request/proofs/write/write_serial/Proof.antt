@@ -4,8 +4,7 @@ use native.Mathlib.Omega.{arith}
 use borrow.Author.Needs.{needs}
 use lib.ListN.{length}
 use Rattle.protocol.specs.Numbers.{roomSerial}
-use Rattle.protocol.specs.Request.{Request, dataOf, serialForm}
-use Rattle.request.specs.Asked.{requestOf}
+use Rattle.protocol.specs.Request.{Request, requestOf, dataOf, serialForm}
 use Rattle.request.proofs.WriteLaws.{refused-alike, put-for, put-for-within, part-size, put-front, emits-allowed, emits-serial}
 use Rattle.request.proofs.write.write_serial.Statement.{statement}
 use Rattle.request.proofs.write.write_serial.Tie as tie

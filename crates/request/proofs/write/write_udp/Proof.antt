@@ -4,8 +4,7 @@ use native.Mathlib.Omega.{arith}
 use borrow.Author.Needs.{needs}
 use lib.ListN.{length}
 use Rattle.protocol.specs.Numbers.{roomUdp}
-use Rattle.protocol.specs.Request.{Request, dataOf, udpForm}
-use Rattle.request.specs.Asked.{requestOf}
+use Rattle.protocol.specs.Request.{Request, requestOf, dataOf, udpForm}
 use Rattle.request.proofs.WriteLaws.{refused-alike, put-for, put-for-within, part-size, put-front, emits-allowed, emits-udp}
 use Rattle.request.proofs.write.write_udp.Statement.{statement}
 use Rattle.request.proofs.write.write_udp.Tie as tie

@@ -1,8 +1,8 @@
--- `request::table::value_fits` meets its contract. Assumes nothing.
+-- `table::value_fits` meets its contract. Assumes nothing.
 use native.Mathlib.Omega.{arith}
-use Rattle.request.proofs.TableLaws.{value-asked, value-unasked}
-use Rattle.request.proofs.table.value_fits.Statement.{statement}
-use Rattle.request.proofs.table.value_fits.Tie as tie
+use Rattle.table.proofs.TableLaws.{value-asked, value-unasked}
+use Rattle.table.proofs.value_fits.Statement.{statement}
+use Rattle.table.proofs.value_fits.Tie as tie
 
 returns : tie.Need-returns
 returns c = value-asked (c .before .args .op) (c .before .args .value) (omega arith) (c .if1 .taken)

@@ -6,15 +6,15 @@ use native.Mathlib.Nat.{zero-add}
 use native.Mathlib.Numerals.{add-one}
 use native.Mathlib.Decide.{decLt}
 use mathlib.Core.Path.{_≡_, refl, sym, ap, _∙_}
-use mathlib.Core.Bool.{Bool, true, false, cond, _&&_}
+use mathlib.Core.Bool.{Bool, true, false, _&&_}
 use mathlib.Core.List.{List, [], _∷_}
 use borrow.Author.Tests.{eqb-true, eqb-false, eq-eqb, ne-eqb, lt-ltb, le-ltb, le-leb, lt-leb}
 use lib.ListN.{length, getD, drop, drop-of-length-le}
 use lib.Seq.{drop-cons}
 use lib.Dec.{eqb, ltb}
-use Rattle.protocol.specs.Numbers.{done, unknownCommand, badParameter, opDetect, opNode, opRead, opWriteExtended, maxDepth, byteEnd, wordEnd}
+use Rattle.protocol.specs.Numbers.{opDetect, opNode, opRead, maxDepth, byteEnd, wordEnd}
 use Rattle.protocol.specs.Bytes.{Bytes, every}
-use Rattle.protocol.specs.Request.{Request, nonzero, isPath, pathFits, indexFits, valueFits, fits, allowance, beforeZero}
+use Rattle.protocol.specs.Request.{Request, nonzero, isPath, pathFits, indexFits, valueFits, fits, beforeZero}
 use Rattle.protocol.proofs.TestLaws.{eqb-same}
 
 -- The first zero, by the first byte.
@@ -75,15 +75,6 @@ module _ (bs : List ℕ) {end i : ℕ} (s : Seeking bs end i) where
           omega (arith, h, k, here .1, none)
 
 -- Bytes are nonzero, all of them, where no zero stands before their end.
-pub zero-within : (bs : List ℕ) → beforeZero bs ≤ length bs
-unfolding beforeZero
-zero-within [] = omega arith
-zero-within (b ∷ bs) = go (eqb b 0) refl (zero-within bs)
-  where
-    go : (t : Bool) → eqb b 0 ≡ t → beforeZero bs ≤ length bs → cond t 0 (suc (beforeZero bs)) ≤ suc (length bs)
-    go true e h = omega arith
-    go false e h = omega arith
-
 nonzero-by : (b : ℕ) → b < byteEnd → nonzero b ≡ ltb 0 b
 nonzero-by b h = rw (lt-ltb b byteEnd h) (go (ltb 0 b))
   where
@@ -159,16 +150,3 @@ module _ (r : Request) where
       → v ≡ valueFits (r .op) (r .value) → v ≡ fits r
   unfolding fits
   fits-value e h f k g = g ∙ sym (rw (sym e ∙ h, sym f ∙ k))
-
-  -- What writing answers.
-  pub allow-unknown : opWriteExtended < r .op → unknownCommand ≡ allowance r
-  unfolding allowance
-  allow-unknown h = sym (rw (lt-ltb opWriteExtended (r .op) h))
-
-  pub allow-unfit : r .op ≤ opWriteExtended → {t : Bool} → t ≡ fits r → t ≡ false → badParameter ≡ allowance r
-  unfolding allowance
-  allow-unfit h e f = sym (rw (le-ltb opWriteExtended (r .op) h, sym e ∙ f))
-
-  pub allow-fit : r .op ≤ opWriteExtended → {t : Bool} → t ≡ fits r → t ≡ true → done ≡ allowance r
-  unfolding allowance
-  allow-fit h e f = sym (rw (le-ltb opWriteExtended (r .op) h, sym e ∙ f))

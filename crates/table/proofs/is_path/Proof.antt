@@ -1,9 +1,9 @@
--- `request::table::is_path` meets its contract. Assumes nothing.
+-- `table::is_path` meets its contract. Assumes nothing.
 use native.Mathlib.Omega.{arith}
 use borrow.Author.Needs.{needs}
-use Rattle.request.proofs.TableLaws.{path-empty, path-long, path-by-zero}
-use Rattle.request.proofs.table.is_path.Statement.{statement}
-use Rattle.request.proofs.table.is_path.Tie as tie
+use Rattle.table.proofs.TableLaws.{path-empty, path-long, path-by-zero}
+use Rattle.table.proofs.is_path.Statement.{statement}
+use Rattle.table.proofs.is_path.Tie as tie
 
 returns : tie.Need-returns
 returns c = path-empty (c .before .before .args .path .now) (c .if1 .taken)

@@ -1,8 +1,8 @@
--- `request::table::path_fits` meets its contract. Assumes nothing.
+-- `table::path_fits` meets its contract. Assumes nothing.
 use borrow.Author.Needs.{needs}
-use Rattle.request.proofs.TableLaws.{path-asked, path-unasked}
-use Rattle.request.proofs.table.path_fits.Statement.{statement}
-use Rattle.request.proofs.table.path_fits.Tie as tie
+use Rattle.table.proofs.TableLaws.{path-asked, path-unasked}
+use Rattle.table.proofs.path_fits.Statement.{statement}
+use Rattle.table.proofs.path_fits.Tie as tie
 
 is-path-requires : tie.Need-is-path-requires
 is-path-requires c κs = search needs

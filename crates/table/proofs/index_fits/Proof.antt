@@ -1,8 +1,8 @@
--- `request::table::index_fits` meets its contract. Assumes nothing.
+-- `table::index_fits` meets its contract. Assumes nothing.
 use native.Mathlib.Omega.{arith}
-use Rattle.request.proofs.TableLaws.{index-asked, index-unasked}
-use Rattle.request.proofs.table.index_fits.Statement.{statement}
-use Rattle.request.proofs.table.index_fits.Tie as tie
+use Rattle.table.proofs.TableLaws.{index-asked, index-unasked}
+use Rattle.table.proofs.index_fits.Statement.{statement}
+use Rattle.table.proofs.index_fits.Tie as tie
 
 returns : tie.Need-returns
 returns c = index-asked (c .before .before .args .op) (c .before .before .args .index .0) (omega arith) (c .before .if1 .taken)

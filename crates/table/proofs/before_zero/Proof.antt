@@ -1,11 +1,11 @@
--- `request::table::before_zero` meets its contract. Assumes nothing.
+-- `table::before_zero` meets its contract. Assumes nothing.
 use Prim.Native.Nat.{_-_}
 use native.Mathlib.Omega.{arith}
 use mathlib.Core.Logic.{⊎-elim}
 use lib.ListN.{length}
-use Rattle.request.proofs.TableLaws.{Seeking, seek-begins, seek-more, seek-found, seek-ends}
-use Rattle.request.proofs.table.before_zero.Statement.{statement}
-use Rattle.request.proofs.table.before_zero.Tie as tie
+use Rattle.table.proofs.TableLaws.{Seeking, seek-begins, seek-more, seek-found, seek-ends}
+use Rattle.table.proofs.before_zero.Statement.{statement}
+use Rattle.table.proofs.before_zero.Tie as tie
 
 abbrev Inv-loop : tie.InvT-loop
 Inv-loop bs end₀ i₀ end i = Seeking bs end i

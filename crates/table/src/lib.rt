@@ -5,11 +5,10 @@ use protocol::OP_NODE;
 use protocol::OP_READ;
 use protocol::PropertyIndex;
 ghost use mathlib.Core.Path.{_≡_};
-ghost use Rattle.protocol.specs.Request.{beforeZero, isPath, pathFits, indexFits, valueFits, fits};
-ghost use Rattle.request.specs.Asked.{requestOf};
+ghost use Rattle.protocol.specs.Request.{requestOf, beforeZero, isPath, pathFits, indexFits, valueFits, fits};
 
 // How many bytes stand before the first zero.
-pub(crate) fn before_zero(bs: &[u8]) -> usize
+pub fn before_zero(bs: &[u8]) -> usize
     ensures { λ r. ⌜ r ≡ beforeZero (now (bs .entry)) ⌝ }
 {
     let mut end = bs.len();
@@ -65,7 +64,7 @@ fn value_fits(op: u8, value: u32) -> bool
 }
 
 // Whether a request has what its op asks for, and no more.
-pub(crate) fn all_fit(op: u8, path: &[u8], index: PropertyIndex, value: u32) -> bool
+pub fn all_fit(op: u8, path: &[u8], index: PropertyIndex, value: u32) -> bool
     ensures { λ r. ⌜ r ≡ fits (requestOf op (now (path .entry)) (index .0) value) ⌝ }
 {
     if !path_fits(op, path) {

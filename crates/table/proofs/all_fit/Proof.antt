@@ -1,11 +1,10 @@
--- `request::table::all_fit` meets its contract. Assumes nothing.
+-- `table::all_fit` meets its contract. Assumes nothing.
 use borrow.Author.Tests.{not-true, not-false}
 use borrow.Author.Needs.{needs}
-use Rattle.protocol.specs.Request.{Request}
-use Rattle.request.specs.Asked.{requestOf}
-use Rattle.request.proofs.TableLaws.{fits-not-path, fits-not-index, fits-value}
-use Rattle.request.proofs.table.all_fit.Statement.{statement}
-use Rattle.request.proofs.table.all_fit.Tie as tie
+use Rattle.protocol.specs.Request.{Request, requestOf}
+use Rattle.table.proofs.TableLaws.{fits-not-path, fits-not-index, fits-value}
+use Rattle.table.proofs.all_fit.Statement.{statement}
+use Rattle.table.proofs.all_fit.Tie as tie
 
 -- The request that the arguments make.
 abbrev asked : tie.Start → Request
