@@ -14,7 +14,7 @@ use Rattle.protocol.specs.Answer.{Outcome, echoIndexed, nodeBody, nodeReply, re
 use Rattle.protocol.proofs.BufferLaws.{put-as, put-fits, puts-fit}
 use Rattle.protocol.proofs.RequestLaws.{dataOf-size}
 use Rattle.request.specs.declared.Asked.{Asked}
-use Rattle.request.proofs.WriteLaws.{data-path, data-index, data-value}
+use Rattle.compose.proofs.WriteLaws.{data-path, data-index, data-value}
 use Rattle.answer.specs.Steps.{requestIn, Asks}
 
 -- An array's length, as the struct that holds the array tells it.

@@ -20,7 +20,7 @@ use Rattle.protocol.specs.Answer.{Answer, answer}
 use Rattle.protocol.proofs.BufferLaws.{over-put, over-nil, put-fits, put-room, part-back}
 use Rattle.protocol.proofs.AnswerLaws.{reply-sized}
 use Rattle.datagram.proofs.UdpLaws.{emits-datagram}
-use Rattle.request.proofs.WriteLaws.{put-front, emits-formed}
+use Rattle.compose.proofs.WriteLaws.{put-front, emits-formed}
 use Rattle.tree.specs.Seen.{seen}
 use Rattle.cells.specs.Cells.{cellsIn}
 use Rattle.cells.specs.Lent.{isLent, lentNumber}

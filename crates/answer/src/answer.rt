@@ -50,7 +50,7 @@ fn put_request(asked: Asked, out: &mut [u8]) -> usize
 {
     let path = asked.path;
     let len = asked.len;
-    request::write::put_data(asked.op, &path[..len], asked.index, asked.value, out)
+    compose::put_data(asked.op, &path[..len], asked.index, asked.value, out)
 }
 
 // Rows 9 to 12: the reply code of a refusal.

@@ -41,8 +41,8 @@ pub(crate) fn run(n: Numbers, string: &[u8], out: &mut [u8]) -> Written {
         0x21 => fields_of(request::read::read_serial(n.address, string), out),
         0x22 => path_of(request::read::read_udp(string), out),
         0x23 => fields_of(request::read::read_udp(string), out),
-        0x24 => request::write::write_serial(n.address, n.mark, string, index, n.value, out),
-        0x25 => request::write::write_udp(n.mark, string, index, n.value, out),
+        0x24 => compose::write_serial(n.address, n.mark, string, index, n.value, out),
+        0x25 => compose::write_udp(n.mark, string, index, n.value, out),
         _ => Written {
             number: 0,
             len: UNKNOWN,

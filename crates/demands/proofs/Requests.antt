@@ -19,7 +19,7 @@ use Rattle.protocol.proofs.ListLaws.{bytes-left}
 use Rattle.protocol.proofs.BufferLaws.{over-nil, over-front}
 use Rattle.protocol.proofs.RequestLaws.{serial-exact, udp-exact, serialForm-injective, udpForm-injective}
 use Rattle.request.specs.Asked.{found, padded}
-use Rattle.request.specs.Write.{writeRequest}
+use Rattle.compose.specs.Write.{writeRequest}
 use Rattle.pualirqiq.specs.Calls.{Handed, fieldsOf, HandsBack}
 use Rattle.demands.specs.Requests.{Wrote, WroteNothing, Requests}
 

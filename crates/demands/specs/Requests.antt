@@ -10,7 +10,7 @@ use Rattle.protocol.specs.Numbers.{done, unknownCommand, badParameter, opWriteE
 use Rattle.protocol.specs.Bytes.{Bytes}
 use Rattle.protocol.specs.Buffer.{Emits}
 use Rattle.protocol.specs.Request.{Request, Asked, Allowed}
-use Rattle.request.specs.Write.{writeRequest}
+use Rattle.compose.specs.Write.{writeRequest}
 use Rattle.pualirqiq.specs.Calls.{Handed, fieldsOf, HandsBack}
 
 -- An output that begins with some bytes and is else as lent: what a call with 0 wrote.

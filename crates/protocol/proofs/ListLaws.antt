@@ -7,9 +7,13 @@ use native.Mathlib.Decide.{decLt}
 use mathlib.Core.Path.{_≡_, sym, ap, subst, _∙_}
 use mathlib.Core.List.{List, [], _∷_, _++_}
 use lib.ListN.{length, getD, take, drop, take-append-drop, List·getD-append, List·getD-eq-default}
-use lib.Seq.{take-suc, take-length, getD-drop}
+use lib.Seq.{take-suc, take-length, length-take-le, getD-drop}
 use Rattle.protocol.specs.Numbers.{byteEnd, wordEnd}
 use Rattle.protocol.specs.Bytes.{Bytes, half, word, number, numberAfter, sum}
+
+-- How long a front part of a list is.
+pub part-size : (k : ℕ) (l : List ℕ) → k ≤ length l → k ≡ length (take k l)
+part-size k l h = sym (length-take-le k l h)
 
 -- A list that is not empty is all but its last entry, and that entry.
 pub init-last : (bs : List ℕ) → 1 ≤ length bs → bs ≡ take (length bs - 1) bs ++ getD bs (length bs - 1) 0 ∷ []

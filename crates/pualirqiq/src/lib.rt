@@ -17,7 +17,7 @@ ghost use Rattle.protocol.specs.Request.{requestOf, readSerial, readUdp, serial
 ghost use Rattle.stream.specs.State.{stateLength};
 ghost use Rattle.stream.specs.Feed.{fed, Feeds};
 ghost use Rattle.request.specs.Asked.{AskedIs};
-ghost use Rattle.request.specs.Write.{writeRequest};
+ghost use Rattle.compose.specs.Write.{writeRequest};
 ghost use Rattle.cells.specs.Lent.{lentNumber, Updates, postIn, restoreIn, Reads, readIn};
 ghost use Rattle.answer.specs.Serve.{serveData, serveSerial, serveUdp, Serves};
 ghost use Rattle.pualirqiq.specs.Calls.{truth, Zeroes, isStateSized, cellsSize, isCellsSized, treeNumber, handed, HandsBack, Locates};
@@ -335,7 +335,7 @@ pub extern "C" fn pq_write_serial(
 ) -> u8
     ensures { λ r. ⌜ Emits (writeRequest roomSerial (length (now (out .entry))) (serialForm address) (requestOf op (now (path .entry)) index value)) (now (out .entry)) r (now (len .exit)) (now (out .exit)) ⌝ }
 {
-    let string = request::write::write_serial(address, op, path, PropertyIndex(index), value, out);
+    let string = compose::write_serial(address, op, path, PropertyIndex(index), value, out);
     *len = string.len;
     string.number
 }
@@ -352,7 +352,7 @@ pub extern "C" fn pq_write_udp(
 ) -> u8
     ensures { λ r. ⌜ Emits (writeRequest roomUdp (length (now (out .entry))) udpForm (requestOf op (now (path .entry)) index value)) (now (out .entry)) r (now (len .exit)) (now (out .exit)) ⌝ }
 {
-    let datagram = request::write::write_udp(op, path, PropertyIndex(index), value, out);
+    let datagram = compose::write_udp(op, path, PropertyIndex(index), value, out);
     *len = datagram.len;
     datagram.number
 }

@@ -1,3 +1,2 @@
 -- What the calls of this crate promise, over the definitions of `protocol`.
 pub mod Asked
-pub mod Write

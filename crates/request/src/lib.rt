@@ -1,6 +1,5 @@
-// PDI requests: read from serial strings and datagrams, and written out as them.
+// PDI requests, read from data, serial strings and datagrams.
 pub mod read;
-pub mod write;
 
 use protocol::PropertyIndex;
 

@@ -8,9 +8,8 @@ use protocol::OP_WRITE_EXTENDED;
 use protocol::PDI;
 use protocol::PropertyIndex;
 use protocol::UNKNOWN_COMMAND;
-ghost use Prim.Native.Nat.{_+_, _-_, _≤_, _<_};
+ghost use Prim.Native.Nat.{_≤_};
 ghost use lib.ListN.{length};
-ghost use Rattle.protocol.specs.Bytes.{number};
 ghost use Rattle.protocol.specs.Request.{requestOf, declined, askedIf, readIndexed, readValued, readShape, readRequest, readSerial, readUdp};
 ghost use Rattle.request.specs.Asked.{AskedIs, found};
 

@@ -2,7 +2,7 @@
 use Prim.Native.Nat.{_≤_}
 use native.Mathlib.Omega.{arith}
 use lib.ListN.{length}
-use Rattle.request.proofs.WriteLaws.{part-size}
+use Rattle.protocol.proofs.ListLaws.{part-size}
 use Rattle.console.proofs.StepLaws.{front-within}
 use Rattle.console.proofs.ProgressLaws.{progress}
 use borrow.Author.Needs.{needs}

@@ -6,7 +6,7 @@ use mathlib.Core.Option.{some}
 use borrow.Author.Needs.{needs}
 use lib.ListN.{length}
 use Rattle.protocol.specs.Tree.{nodeAt}
-use Rattle.request.proofs.WriteLaws.{part-size}
+use Rattle.protocol.proofs.ListLaws.{part-size}
 use Rattle.tree.specs.Seen.{seen}
 use Rattle.cells.specs.Cells.{cellsForm, cellsIn}
 use Rattle.cells.proofs.CellLaws.{lent-form}

@@ -4,7 +4,7 @@ use native.Mathlib.Omega.{arith}
 use borrow.Author.Needs.{needs}
 use lib.ListN.{length}
 use Rattle.protocol.specs.Request.{readSerial}
-use Rattle.request.proofs.WriteLaws.{part-size}
+use Rattle.protocol.proofs.ListLaws.{part-size}
 use Rattle.answer.specs.Serve.{Call, serialCall, Open}
 use Rattle.answer.proofs.ReadLaws.{Read, early-frame, row-of-string, row-of-data}
 use Rattle.answer.proofs.ServeLaws.{answerTo, opened, serve-unlent, serve-refused, serve-answered, replies, answered-as, as-serial, reply-within}

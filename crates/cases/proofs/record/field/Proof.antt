@@ -1,5 +1,5 @@
 -- `cases::record::field` meets its contract: the bytes that it counts lie in the output. Assumes nothing.
-use Rattle.request.proofs.WriteLaws.{part-size}
+use Rattle.protocol.proofs.ListLaws.{part-size}
 use borrow.Author.Needs.{needs}
 use Rattle.cases.proofs.record.field.Statement.{statement}
 use Rattle.cases.proofs.record.field.Tie as tie

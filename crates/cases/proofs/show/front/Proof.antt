@@ -1,5 +1,5 @@
 -- `cases::show::front` is safe. Assumes nothing.
-use Rattle.request.proofs.WriteLaws.{part-size}
+use Rattle.protocol.proofs.ListLaws.{part-size}
 use borrow.Author.Needs.{needs}
 use Rattle.cases.proofs.show.front.Statement.{statement}
 use Rattle.cases.proofs.show.front.Tie as tie

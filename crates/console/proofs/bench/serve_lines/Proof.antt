@@ -5,8 +5,8 @@ use mathlib.Core.Path.{subst}
 use mathlib.Core.Bool.{true}
 use lib.ListN.{length}
 use lib.Seq.{length-take-le}
-use Rattle.request.proofs.WriteLaws.{part-size}
 use Rattle.protocol.specs.Numbers.{roomData}
+use Rattle.protocol.proofs.ListLaws.{part-size}
 use Rattle.answer.specs.Serve.{serveData}
 use Rattle.console.specs.Bench.{served}
 use Rattle.console.specs.Steps.{ServesLines}

@@ -1,8 +1,8 @@
 -- `console::bench::step` meets its contract. Assumes nothing.
 use Prim.Native.Nat.{_≤_}
 use lib.ListN.{length}
-use Rattle.request.proofs.WriteLaws.{part-size}
 use Rattle.protocol.specs.Numbers.{roomData}
+use Rattle.protocol.proofs.ListLaws.{part-size}
 use Rattle.stream.specs.Feed.{FedBy, fed}
 use Rattle.console.specs.Bench.{benchAddress}
 use Rattle.console.proofs.StepLaws.{front-within, steps-none, steps-open, no-frame, good-frame, bad-frame}

@@ -1,7 +1,7 @@
 -- `request::read::read_indexed` meets its contract. Assumes nothing.
 use native.Mathlib.Omega.{arith}
 use borrow.Author.Needs.{needs}
-use Rattle.request.proofs.WriteLaws.{part-size}
+use Rattle.protocol.proofs.ListLaws.{part-size}
 use Rattle.request.proofs.ReadLaws.{indexed-none, indexed-some}
 use Rattle.request.proofs.read.read_indexed.Statement.{statement}
 use Rattle.request.proofs.read.read_indexed.Tie as tie

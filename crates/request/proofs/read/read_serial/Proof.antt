@@ -3,7 +3,7 @@ use Prim.Native.Nat.{_≤_}
 use native.Mathlib.Omega.{arith}
 use borrow.Author.Needs.{needs}
 use lib.ListN.{length}
-use Rattle.request.proofs.WriteLaws.{part-size}
+use Rattle.protocol.proofs.ListLaws.{part-size}
 use Rattle.request.proofs.ReadLaws.{serial-within, serial-refused, serial-read}
 use Rattle.request.proofs.read.read_serial.Statement.{statement}
 use Rattle.request.proofs.read.read_serial.Tie as tie

@@ -1,8 +1,8 @@
 -- `request::read::read_valued` meets its contract. Assumes nothing.
 use native.Mathlib.Omega.{arith}
 use borrow.Author.Needs.{needs}
+use Rattle.protocol.proofs.ListLaws.{part-size}
 use Rattle.protocol.proofs.RequestLaws.{zero-within}
-use Rattle.request.proofs.WriteLaws.{part-size}
 use Rattle.request.proofs.ReadLaws.{valued-other, valued-whole}
 use Rattle.request.proofs.read.read_valued.Statement.{statement}
 use Rattle.request.proofs.read.read_valued.Tie as tie

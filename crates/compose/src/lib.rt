@@ -1,4 +1,4 @@
-// Requests, written out.
+// PDI requests, written out: their data, and frames and datagrams of it.
 use frame::Written;
 use frame::buffer;
 use protocol::BAD_PARAMETER;
@@ -20,7 +20,7 @@ ghost use Rattle.protocol.specs.Numbers.{roomSerial, roomUdp};
 ghost use Rattle.protocol.specs.Bytes.{word};
 ghost use Rattle.protocol.specs.Buffer.{fitting, Put, Emits};
 ghost use Rattle.protocol.specs.Request.{requestOf, allowance, dataOf, serialForm, udpForm};
-ghost use Rattle.request.specs.Write.{writeRequest};
+ghost use Rattle.compose.specs.Write.{writeRequest};
 
 // An index, and a value behind a zero, the high byte first.
 fn tail_of(index: PropertyIndex, value: u32) -> [u8; 6]

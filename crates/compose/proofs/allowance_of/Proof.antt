@@ -1,10 +1,10 @@
--- `request::write::allowance_of` meets its contract. Assumes nothing.
+-- `compose::allowance_of` meets its contract. Assumes nothing.
 use borrow.Author.Tests.{not-true, not-false}
 use borrow.Author.Needs.{needs}
 use Rattle.protocol.specs.Request.{Request, requestOf}
-use Rattle.request.proofs.WriteLaws.{allow-unknown, allow-unfit, allow-fit}
-use Rattle.request.proofs.write.allowance_of.Statement.{statement}
-use Rattle.request.proofs.write.allowance_of.Tie as tie
+use Rattle.compose.proofs.WriteLaws.{allow-unknown, allow-unfit, allow-fit}
+use Rattle.compose.proofs.allowance_of.Statement.{statement}
+use Rattle.compose.proofs.allowance_of.Tie as tie
 
 -- The request that the arguments make.
 abbrev asked : tie.Start → Request

@@ -1,13 +1,13 @@
--- `request::write::data_for` meets its contract. Assumes nothing.
+-- `compose::data_for` meets its contract. Assumes nothing.
 use native.Mathlib.Omega.{arith}
 use mathlib.Core.Path.{sym, _∙_}
 use borrow.Author.Needs.{needs}
 use Rattle.protocol.specs.Request.{Request, requestOf, Allowed, dataOf}
 use Rattle.protocol.proofs.BufferLaws.{put-emits, put-fits}
 use Rattle.protocol.proofs.RequestLaws.{dataOf-size}
-use Rattle.request.proofs.WriteLaws.{emits-unroomed, emits-unallowed, emits-allowed}
-use Rattle.request.proofs.write.data_for.Statement.{statement}
-use Rattle.request.proofs.write.data_for.Tie as tie
+use Rattle.compose.proofs.WriteLaws.{emits-unroomed, emits-unallowed, emits-allowed}
+use Rattle.compose.proofs.data_for.Statement.{statement}
+use Rattle.compose.proofs.data_for.Tie as tie
 
 -- The request that the arguments make.
 abbrev asked : tie.Start → Request

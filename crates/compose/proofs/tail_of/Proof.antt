@@ -1,9 +1,9 @@
--- `request::write::tail_of` meets its contract. Assumes nothing.
+-- `compose::tail_of` meets its contract. Assumes nothing.
 use mathlib.Core.Path.{refl}
 use borrow.Author.Needs.{needs}
 use Rattle.protocol.specs.Bytes.{word}
-use Rattle.request.proofs.write.tail_of.Statement.{statement}
-use Rattle.request.proofs.write.tail_of.Tie as tie
+use Rattle.compose.proofs.tail_of.Statement.{statement}
+use Rattle.compose.proofs.tail_of.Tie as tie
 
 cast-t5 : tie.Need-cast-t5
 cast-t5 c = search needs

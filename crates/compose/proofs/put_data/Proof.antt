@@ -1,4 +1,4 @@
--- `request::write::put_data` meets its contract. Assumes nothing.
+-- `compose::put_data` meets its contract. Assumes nothing.
 use native.Mathlib.Omega.{arith}
 use mathlib.Core.Path.{ap}
 use mathlib.Core.List.{[], _∷_}
@@ -7,10 +7,11 @@ use lib.ListN.{length, take}
 use Rattle.protocol.specs.Numbers.{PDI}
 use Rattle.protocol.specs.Bytes.{word}
 use Rattle.protocol.specs.Buffer.{fitting, Put}
+use Rattle.protocol.proofs.ListLaws.{part-size}
 use Rattle.protocol.proofs.BufferLaws.{fit-as, fits-join}
-use Rattle.request.proofs.WriteLaws.{data-path, data-index, data-value, length-word, part-size}
-use Rattle.request.proofs.write.put_data.Statement.{statement}
-use Rattle.request.proofs.write.put_data.Tie as tie
+use Rattle.compose.proofs.WriteLaws.{data-path, data-index, data-value, length-word}
+use Rattle.compose.proofs.put_data.Statement.{statement}
+use Rattle.compose.proofs.put_data.Tie as tie
 
 -- The data up to its path.
 abbrev origin : tie.After-put-all2 → tie.Start

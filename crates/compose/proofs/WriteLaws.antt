@@ -7,7 +7,7 @@ use mathlib.Core.Bool.{Bool, true, false, cond}
 use mathlib.Core.List.{List, [], _∷_, _++_, append-nil}
 use borrow.Author.Tests.{eqb-true, eqb-false, ltb-false, eq-eqb, ne-eqb, lt-ltb, le-ltb}
 use lib.ListN.{length, take, drop}
-use lib.Seq.{take-at, length-take-le}
+use lib.Seq.{take-at}
 use lib.Dec.{eqb, ltb}
 use Rattle.protocol.specs.Numbers.{done, noRoom, unknownCommand, badParameter, roomSerial, roomUdp, PDI, opNode, opRead, opWriteExtended}
 use Rattle.protocol.specs.Bytes.{word}
@@ -17,7 +17,7 @@ use Rattle.protocol.specs.Request.{Request, requestOf, fits, allowance, Allowed
 use Rattle.protocol.proofs.BufferLaws.{put-room, over-put, over-nil, emits-refused, emits-no-room, emits-in-room}
 use Rattle.protocol.proofs.FrameLaws.{ifSized-sized}
 use Rattle.protocol.proofs.RequestLaws.{dataOf-size, dataOf-sized}
-use Rattle.request.specs.Write.{writeRequest}
+use Rattle.compose.specs.Write.{writeRequest}
 
 -- The data of a request by what its op asks for.
 module _ (op : ℕ) (path : List ℕ) (index value : ℕ) where
@@ -115,9 +115,6 @@ put-within p h = omega (arith, put-room p 0 (omega (arith, h)))
 pub put-for-within : {least room : ℕ} (r : Request) {old new : List ℕ} {size : ℕ} → PutFor least room r old size new → 24 ≤ length old
     → size ≤ length new
 put-for-within r p h = put-within (p .put) (omega (arith, h, dataOf-size r (p .allowed)))
-
-pub part-size : (k : ℕ) (l : List ℕ) → k ≤ length l → k ≡ length (take k l)
-part-size k l h = sym (length-take-le k l h)
 
 -- Data of a good size is written in its form where there is room.
 unroomed : {least room : ℕ} {w : Received} {old new : List ℕ} {n size : ℕ} → least ≤ room → Emits (ifRoom least room w) old n size new

@@ -1,0 +1,2 @@
+-- What the calls of this crate promise, over the definitions of `protocol`.
+pub mod Write
