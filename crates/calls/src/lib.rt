@@ -5,9 +5,11 @@ mod serve;
 mod wire;
 
 use frame::Written;
+ghost use Prim.Native.Nat.{_≤_};
+ghost use lib.ListN.{length};
 
 // Stands for the length where a kind is not known.
-pub const UNKNOWN: usize = usize::MAX;
+pub(crate) const UNKNOWN: usize = usize::MAX;
 
 // The numbers of a call: its kind, the room for its output and the size of what is lent, and its arguments.
 pub struct Numbers {
@@ -31,8 +33,15 @@ pub(crate) fn put_word(n: u32, out: &mut [u8], at: usize) -> usize {
     frame::buffer::put_all(&bytes, out, at)
 }
 
+// What a call gave: whether its kind is known, the number, and how many bytes it wrote to the front of the output.
+pub struct Called {
+    pub known: bool,
+    pub number: u8,
+    pub len: usize,
+}
+
 // Makes the call of a kind. Each module says which numbers and slices its kinds use.
-pub fn run(n: Numbers, string: &[u8], tree: &[u8], lent: &mut [u8], out: &mut [u8]) -> Written {
+fn call(n: Numbers, string: &[u8], tree: &[u8], lent: &mut [u8], out: &mut [u8]) -> Written {
     if n.kind < 0x20 {
         return wire::run(n, string, lent, out);
     }
@@ -43,4 +52,23 @@ pub fn run(n: Numbers, string: &[u8], tree: &[u8], lent: &mut [u8], out: &mut [u
         return serve::run(n, string, tree, lent, out);
     }
     readings::run(n, tree, lent, out)
+}
+
+// The same, where the kind is known. What it tells lies in the output.
+pub fn run(n: Numbers, string: &[u8], tree: &[u8], lent: &mut [u8], out: &mut [u8]) -> Called
+    ensures { λ r. ⌜ r .len ≤ length (now (out .exit)) ⌝ }
+{
+    let written = call(n, string, tree, lent, out);
+    if out.len() < written.len {
+        return Called {
+            known: false,
+            number: 0,
+            len: 0,
+        };
+    }
+    Called {
+        known: true,
+        number: written.number,
+        len: written.len,
+    }
 }

@@ -49,8 +49,12 @@ fn show_kind(
     lent: &mut [u8],
     out: &mut [u8],
 ) -> bool {
-    let written = calls::run(n, string, tree, lent, out);
-    show::front(name, written.number, out, written.len)
+    let called = calls::run(n, string, tree, lent, out);
+    let len = called.len;
+    if called.known {
+        show::line(name, called.number, &out[..len]);
+    }
+    called.known
 }
 
 // The same with the room and the size that the numbers give.

@@ -14,23 +14,13 @@ fn show_bytes(bytes: &[u8]) {
     }
 }
 
-fn line(name: &[u8], number: u8, bytes: &[u8]) {
+pub(crate) fn line(name: &[u8], number: u8, bytes: &[u8]) {
     io::write_all(STDOUT_FILENO, name);
     io::write_all(STDOUT_FILENO, b": ");
     io::print_decimal(STDOUT_FILENO, number as u64);
     io::write_all(STDOUT_FILENO, b" ");
     show_bytes(bytes);
     io::write_all(STDOUT_FILENO, b"\n");
-}
-
-// The line of a case, with the first bytes of an output. A length past its end is no result of any call: then there is no line,
-// and it returns false.
-pub(crate) fn front(name: &[u8], number: u8, out: &[u8], len: usize) -> bool {
-    if out.len() < len {
-        return false;
-    }
-    line(name, number, &out[..len]);
-    true
 }
 
 pub(crate) fn broken() {
