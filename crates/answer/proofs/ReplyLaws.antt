@@ -3,7 +3,7 @@
 use Prim.Native.Nat.{ℕ, _<_, _≤_}
 use native.Mathlib.Omega.{arith}
 use mathlib.Core.Path.{_≡_, sym, ap, _∙_}
-use mathlib.Core.List.{List, [], _∷_, _++_, append-assoc, map}
+use mathlib.Core.List.{List, _∷_, _++_, append-assoc, map}
 use lib.ListN.{length, length-append, length-map, length-take}
 use Rattle.protocol.specs.Numbers.{roomData, opNode, opRecord, opRead, maxDepth}
 use Rattle.protocol.specs.Bytes.{word}

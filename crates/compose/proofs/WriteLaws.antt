@@ -12,7 +12,7 @@ use lib.Dec.{eqb, ltb}
 use Rattle.protocol.specs.Numbers.{done, noRoom, unknownCommand, badParameter, roomSerial, roomUdp, PDI, opNode, opRead, opWriteExtended}
 use Rattle.protocol.specs.Bytes.{word}
 use Rattle.protocol.specs.Frame.{Received, received, refused, Sized, frame, datagram, ifSized, ifDone, ifRoom, writeFrame, writeDatagram}
-use Rattle.protocol.specs.Buffer.{putAt, fitting, Put, Emits}
+use Rattle.protocol.specs.Buffer.{putAt, Put, Emits}
 use Rattle.protocol.specs.Request.{Request, requestOf, fits, allowance, Allowed, dataOf, serialForm, udpForm}
 use Rattle.protocol.proofs.BufferLaws.{put-room, over-put, over-nil, emits-refused, emits-no-room, emits-in-room}
 use Rattle.protocol.proofs.FrameLaws.{ifSized-sized}
