@@ -53,7 +53,7 @@ TAIL = """
   some 11 instructions for a byte; what it passes over behind a 10h goes by a branch that the processor guesses, not by a sum that
   would wait for the byte.
 - The check of the tree is most of a row with a tree (two thirds or more on the bench tree): about 6 instructions for a byte of
-  text (`tree::texts::characters_end`), and 31 for the numbers of a property (`tree::record::read_fields`).
+  text (`soundness::texts::characters_end`), and 31 for the numbers of a property (`tree::record::read_fields`).
 """
 
 
