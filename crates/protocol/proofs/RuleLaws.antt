@@ -17,7 +17,7 @@ use mir.Val.{toZ}
 use Rattle.protocol.specs.Numbers.{done, disabled, notLive, DISABLED, standard, enumeration, wordEnd}
 use Rattle.protocol.specs.Bytes.{sum, ordered, atMost, every, text, texts}
 use Rattle.protocol.specs.Frame.{checksum}
-use Rattle.protocol.specs.Tree.{Property, Tree, Cell, canRead, isSigned, isLive, propertyIn, cellIn, readable, reading, unready, restoredCell, restored, posted, post, sound, nodesSound, propertiesSound, propertySound, parentsSound, parentsFrom, depthsSound, depthsAfter, liveSound, kindSound, standardSound, enumerationSound, isName, optionsSound, cellsSound}
+use Rattle.protocol.specs.Tree.{Property, Tree, Cell, canRead, isSigned, isLive, placesFrom, childrenOf, propertyIn, cellIn, readable, reading, unready, restoredCell, restored, posted, post, sound, nodesSound, propertiesSound, propertySound, parentsSound, parentsFrom, depthsSound, depthsAfter, liveSound, kindSound, standardSound, enumerationSound, isName, optionsSound, cellsSound}
 use Rattle.protocol.specs.Answer.{inRange, plain, refusalCode, answer}
 use Rattle.protocol.specs.Bench.{benchTree, benchCells}
 use Rattle.protocol.proofs.TestLaws.{leb-same}
@@ -185,6 +185,11 @@ restored-length (p ∷ ps) (c ∷ cs) = ap suc (restored-length ps cs)
 pub bench-sound : sound benchTree ≡ true
 unfolding sound nodesSound propertiesSound propertySound parentsSound parentsFrom depthsSound depthsAfter liveSound kindSound standardSound enumerationSound isName optionsSound every texts text atMost ordered benchTree
 bench-sound = refl
+
+-- The device's children, which are numbered from 1; it is no child of its own.
+pub bench-children : childrenOf benchTree 0 ≡ 1 ∷ 2 ∷ []
+unfolding childrenOf placesFrom benchTree
+bench-children = refl
 
 pub bench-cells-sound : cellsSound benchTree benchCells ≡ true
 unfolding cellsSound every benchTree benchCells

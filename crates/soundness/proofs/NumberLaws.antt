@@ -28,7 +28,7 @@ half-is : (n : ℕ) {a b : ℕ} → n / 2 ^ 8 % 2 ^ 8 ≡ a → n % 2 ^ 8 ≡ b 
 unfolding half
 half-is n e f = cc
 
-pub half-number : (a b : ℕ) → a < byteEnd → b < byteEnd → half (number (a ∷ b ∷ [])) ≡ a ∷ b ∷ []
+half-number : (a b : ℕ) → a < byteEnd → b < byteEnd → half (number (a ∷ b ∷ [])) ≡ a ∷ b ∷ []
 unfolding numberAfter
 half-number a b p q = half-is (number (a ∷ b ∷ [])) (omega arith) (omega arith)
 
