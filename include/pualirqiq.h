@@ -23,8 +23,8 @@
  *   tree too: the library has no data of its own.
  * - Refusals. Every number but 0 and 255 is one. It leaves cells, state and outputs as they were; lengths, offsets and counts
  *   that are handed back are 0, and the action is PQ_NO_ACTION; what is read out of something (a word, the fields of a request)
- *   is left as it was. Two exceptions: the serving calls write a reply with 9 to 13, and pq_feed takes the bytes of a frame that
- *   it refuses.
+ *   is left as it was. Three exceptions: the serving calls write a reply with 9 to 13, pq_feed takes the bytes of a frame that it
+ *   refuses, and pq_list tells with 8 how much room it needs.
  * - Numbers. Those that a call may return stand with it, in the order in which they are tested.
  */
 #ifndef PUALIRQIQ_H
@@ -33,8 +33,9 @@
 #include <stddef.h>
 #include <stdint.h>
 
-/* Grows when the interface changes. 1: with pq_word and pq_is_ready. 2: pq_reading and pq_restore_cells in their place. */
-#define PQ_VERSION 2
+/* Grows when the interface changes. 1: with pq_word and pq_is_ready. 2: pq_reading and pq_restore_cells in their place.
+ * 3: pq_list. */
+#define PQ_VERSION 3
 
 /* In C, an array of at least so many elements: compilers warn of a shorter one. */
 #if defined(__STDC_VERSION__) && __STDC_VERSION__ >= 199901L && !defined(__cplusplus)
@@ -54,7 +55,8 @@ enum {
     PQ_PATH_SIZE = 16,    /* the longest path */
     PQ_ROOM_DATA = 256,   /* the least room of an output for data */
     PQ_ROOM_UDP = 260,    /* .. for a datagram */
-    PQ_ROOM_SERIAL = 520  /* .. for a serial string */
+    PQ_ROOM_SERIAL = 520, /* .. for a serial string */
+    PQ_ROOM_LIST = 17664  /* room for every listing: none is longer */
 };
 
 /* Numbers returned (document 01). */
@@ -67,7 +69,7 @@ enum {
     PQ_TOO_LONG = 5,         /* more than 256 bytes of data */
     PQ_BAD_CHECKSUM = 6,
     PQ_OTHER_ADDRESS = 7,
-    PQ_NO_ROOM = 8,          /* the output is shorter than its least room, whatever would be put there */
+    PQ_NO_ROOM = 8,          /* the output is shorter than its least room, whatever would be put there; pq_list: than the listing */
     PQ_DISABLED = 9,         /* host functions are off */
     PQ_UNKNOWN_COMMAND = 10, /* not B4, or an op above 5 */
     PQ_BAD_PARAMETER = 11,   /* not what the op asks for; no such node or property */
@@ -114,6 +116,20 @@ uint8_t pq_check_tree(const uint8_t *tree, size_t tree_len);
 /* The check of a tree and its cells. Every call that gets both begins with it, but for pq_begin_cells.
  * 1: the bytes stand for no sound tree, there is not one cell for each property, or a mark is neither 0 nor 1. 0. */
 uint8_t pq_check(const uint8_t *tree, size_t tree_len, const uint8_t *cells, size_t cells_len);
+
+/* The listing of a tree, to be printed at the bench: for each node its path, its name and how many children and properties it has,
+ * then its properties, then its children's subtrees in number order. Lines of key=value, each ended by 0Ah, numbers in decimal,
+ * paths dotted. Of a node: path, name, children, properties; of a property: path (its node's), index, label, type. No word is
+ * shown, and no cells are lent. A setting's or probe's path and index in a listing are those of a request.
+ *
+ *   number                                                *len                     out
+ *   1        the bytes stand for no sound tree            0                        as it was
+ *   8        out_len is shorter than the listing          the listing's length     as it was
+ *   0                                                     the listing's length     the listing, with no zero behind it
+ *
+ * So a first call with out_len 0 tells the room that is needed; with PQ_ROOM_LIST there is always enough, and the tree is then
+ * walked once and not twice. */
+uint8_t pq_list(const uint8_t *tree, size_t tree_len, uint8_t *out, size_t out_len, size_t *len);
 
 /* How many bytes the cells of a tree take. 0 where it is not sound, and where it has no properties. */
 size_t pq_cells_size(const uint8_t *tree, size_t tree_len);
@@ -212,16 +228,18 @@ uint8_t pq_write_udp(uint8_t op, const uint8_t *path, size_t path_len, uint8_t i
  * The most that a call needs, in bytes, on x86-64 (python3 tests/stack.py target/staticlib/libpualirqiq.a): with its return
  * address, and without its arguments, which are the caller's, and without what memcpy and memset take themselves.
  *
- *   pq_begin_cells     248      pq_feed             48      pq_restore_cells   264
- *   pq_begin_stream     24      pq_frame            16      pq_serve_data      424
- *   pq_cells_size      232      pq_post            280      pq_serve_serial    696
- *   pq_check           248      pq_read_frame       96      pq_serve_udp       424
- *   pq_check_tree      216      pq_read_serial     232      pq_state_size        8
- *   pq_datagram          8      pq_read_udp        184      pq_write_serial    184
- *   pq_datagram_data     8      pq_reading         280      pq_write_udp       184
+ *   pq_begin_cells     248      pq_frame            16      pq_serve_data      424
+ *   pq_begin_stream     24      pq_list           4720      pq_serve_serial    696
+ *   pq_cells_size      232      pq_post            280      pq_serve_udp       424
+ *   pq_check           248      pq_read_frame       96      pq_state_size        8
+ *   pq_check_tree      216      pq_read_serial     232      pq_write_serial    184
+ *   pq_datagram          8      pq_read_udp        184      pq_write_udp       184
+ *   pq_datagram_data     8      pq_reading         280
+ *   pq_feed             48      pq_restore_cells   264
  *
- * No call recurses, and none takes stack by the length of what it is lent. Another part or build differs: fill the stack with a
- * pattern, make the calls, and see how far down it was overwritten. */
+ * Only pq_list recurses: a frame for each level of the tree, of which there are at most 16, and one for each digit of a number.
+ * What stands here is for 16 levels. No call takes stack by the length of what it is lent. Another part or build differs: fill the
+ * stack with a pattern, make the calls, and see how far down it was overwritten. */
 
 #ifdef __cplusplus
 }

@@ -1,8 +1,10 @@
-"""The second program of document 01: what crates/cases must print, worked out anew from documents 01 and 003.
+"""The second program of document 01: what crates/cases must print, worked out anew from documents 01, 02 and 003; and what
+crates/list must print of the bench tree.
 
-Usage: cases.py write      writes the files of crates/cases: stdin, the cases; stdout, the expected lines
+Usage: cases.py write      writes the files of crates/cases: stdin, the cases; stdout, the expected lines; and those of
+                           crates/list: stdin, the bench tree's form; stdout, its listing
        cases.py check      says whether the files there are these, byte for byte
-Nothing here was taken from the program's output. Each case: name, call, arguments; the answer is worked out by the rules below,
+Nothing here was taken from a program's output. Each case: name, call, arguments; the answer is worked out by the rules below,
 and `SAYS` holds the answers that the documents print in full, which the rules are compared with.
 
 A line of stdin has five fields with `|` between them: the name of the case, then four in hex with capital letters.
@@ -223,6 +225,18 @@ def bench():
     )
 
 
+# 02, section 1: the lines of a node, of its properties, and of all below it.
+def listing(tree, node=0, path=b"1"):
+    owned, below = tree.owned(node), tree.children(node)
+    out = b"path=%b\nname=%b\nchildren=%d\nproperties=%d\n" % (path, tree.nodes[node][1], len(below), len(owned))
+    for index, place in enumerate(owned, 1):
+        kind, label = tree.properties[place][1], tree.properties[place][6]
+        out += b"path=%b\nindex=%d\nlabel=%b\ntype=%d\n" % (path, index, label, kind)
+    for number, child in enumerate(below, 1):
+        out += listing(tree, child, b"%b.%d" % (path, number))
+    return out
+
+
 # 01, Wrong builds: a setting with min and max 0, of type 1 and of type 2, and one that is signed.
 def limits():
     return Tree([(0, b"Box")], [(0, 1, 0, 0, 3, 0, b"Free", [b""], 0, 0), (0, 2, 0, 0, 3, 0, b"One", [b"Only"], 0, 0),
@@ -401,6 +415,11 @@ CASES = [
     ("reading/0 setting", "reading", 2),
     ("reading/12", "reading", 1),
     ("reading/12 action", "reading", 4),
+    # 02, section 1: listings, with just the room that they take and with a byte less.
+    ("list/0", "list"),
+    ("list/0 1020", "list_penko"),
+    ("list/1", "list_unsound"),
+    ("list/8", "list_no_room"),
     # 003: the checksum of a sum of 1234h, and the examples of section 5.
     ("003/checksum", "write_frame", 0, b"\xFF" * 18 + b"\x46"),
     ("003/5.1", "penko", H("B400")),
@@ -447,7 +466,7 @@ def variant(call):
 
 
 def tree_of(base):
-    return {"limits": limits, "penko": penko}.get(base, bench)()
+    return {"limits": limits, "penko": penko, "list_penko": penko}.get(base, bench)()
 
 
 def answers(call, args):
@@ -473,6 +492,9 @@ def answers(call, args):
         if not attribute & 1 or attribute & 0x2000 and not tree.cells[args[0]][1]:
             return [(12, b"")]
         return [(0, tree.cells[args[0]][0].to_bytes(4, "big"))]
+    if base in ("list", "list_penko"):
+        number, lines = 1 if unsound else 8 if no_room else 0, b"" if unsound else listing(tree)
+        return [(number, b"" if number else lines), (number, len(lines).to_bytes(4, "big"))]
     if no_room or unsound:
         return [(8 if no_room else 1, b"")]
     if base in ("write_frame", "write_datagram"):
@@ -506,15 +528,16 @@ def answers(call, args):
 
 def lines():
     for name, call, *args in CASES:
+        titles = [title for title, _, _ in steps(name, variant(call)[0], args)]
         for k, (number, bs) in enumerate(answers(call, args)):
             says = f"{number} {bs.hex().upper()}"
             if k == 0 and name in SAYS:
                 assert SAYS[name] == says, (name, says)
-            yield ("  op" if k == 1 and call.startswith("read_") else name) + ": " + says
+            yield titles[k] + ": " + says
 
 
 # The cases as lines of stdin. For each call: its kind, the room that it asks for, and the numbers that its arguments are, in order;
-# the argument that is bytes is the string. 520 for a call that has no output of its own.
+# the argument that is bytes is the string. 520 for a call that has no output of its own; 0 for a listing, whose room is its length.
 CALLS = {
     "write_frame": (0x10, 520, ("address",)),
     "read_frame": (0x11, 256, ("address",)),
@@ -533,6 +556,8 @@ CALLS = {
     "post": (0x40, 520, ("index", "value", "mark")),
     "restore": (0x41, 520, ()),
     "reading": (0x42, 520, ("index",)),
+    "list": (0x50, 0, ()),
+    "list_length": (0x51, 0, ()),
 }
 
 
@@ -540,6 +565,8 @@ def steps(name, base, args):
     """The calls of a case, one for each line: name, call, arguments."""
     if base in ("read_serial", "read_udp"):
         return [(name, base, args), ("  op", base + "_fields", args)]
+    if base in ("list", "list_penko"):
+        return [(name, "list", []), ("  length", "list_length", [])]
     if base == "feed_twice":
         return [(name, "feed", [args[0], bs]) for bs in args[1:]]
     if base == "restore":
@@ -556,11 +583,14 @@ def records(name, call, args):
         lent = bytes([4 if unsound else 0]) * 261
     elif base in ("data", "twice", "limits", "penko", "serial", "udp", "post", "restore", "reading"):
         tree, lent = tree_of(base).form(), bytes(24) if unsound else tree_of(base).cell_bytes()
+    elif base in ("list", "list_penko"):
+        tree = tree_of(base).form()[: -1 if unsound else None]
     for k, (title, step, values) in enumerate(steps(name, base, args)):
         kind, room, names = CALLS[step]
         host = int(step in ("data", "serial", "udp") and not off)
         n = {"address": 0, "mark": host, "index": 0, "value": 0}
         n.update(zip(names, (v for v in values if isinstance(v, int))))
+        room = room or len(listing(tree_of(base)))
         numbers = bytes([kind]) + (room - no_room).to_bytes(2, "big") + len(lent).to_bytes(2, "big")
         numbers += bytes([n["address"], n["mark"], n["index"]]) + n["value"].to_bytes(4, "big")
         string = b"".join(v for v in values if isinstance(v, bytes))
@@ -568,14 +598,19 @@ def records(name, call, args):
 
 
 def main(words):
-    crate = pathlib.Path(__file__).parent.parent / "crates/cases"
+    crates = pathlib.Path(__file__).parent.parent / "crates"
     cases = [line for name, call, *args in CASES for line in records(name, call, args)]
-    files = {"stdin": "".join(line + "\n" for line in cases), "stdout": "".join(line + "\n" for line in lines())}
+    files = {
+        "cases/stdin": "".join(line + "\n" for line in cases).encode(),
+        "cases/stdout": "".join(line + "\n" for line in lines()).encode(),
+        "list/stdin": bench().form(),
+        "list/stdout": listing(bench()),
+    }
     if words == ["write"]:
-        for name, text in files.items():
-            (crate / name).write_bytes(text.encode())
+        for name, content in files.items():
+            (crates / name).write_bytes(content)
     elif words == ["check"]:
-        other = [name for name, text in files.items() if (crate / name).read_bytes() != text.encode()]
+        other = [name for name, content in files.items() if (crates / name).read_bytes() != content]
         if other:
             sys.exit("cases: not as tests/cases.py writes it: " + ", ".join(other))
         print("cases: same")

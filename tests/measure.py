@@ -28,14 +28,15 @@ Written by `tests/measure.sh`; the numbers are those of one run on one machine (
 *Ours* is the static library, called as C calls it. *Second* is the second implementation in `tests/second`, an ordinary Rust
 program written from the documents, built by rustc with `opt-level = 3`. Both work from the same lent bytes: for each request
 the second one, too, reads and checks the whole tree and the cells, since no call trusts an earlier check. Bounds of slices are
-tested at run time in the second one; it allocates two lists for a tree.
+tested at run time in the second one; it allocates two lists for a tree, and one more for a listing.
 
 - Time: nanoseconds for one call, the best of 100 runs of at least 2 ms each, the two sides by turns, in each of three processes.
 - Instructions: counted by `valgrind --tool=callgrind`, {many} calls less {few} calls, divided by {difference}.
 - The ratio is ours / second: under 1 the library is quicker.
 - The bench tree takes 159 bytes and has 3 nodes and 5 properties. The largest takes 27330 bytes: 64 nodes, 128 properties,
-  every text as long as it may be; requests go to a property of a node at depth 16.
-- Every row with a tree carries the check of that tree and of its cells, which is all of a `check` row.
+  every text as long as it may be; requests go to a property of a node at depth 16. Their listings have
+  314 and 13430 bytes.
+- Every row with a tree carries the check of that tree and, but for `pq_list`, of its cells, which is all of a `check` row.
 
 | Call | Ours, ns | Second, ns | Ratio | Ours, instructions | Second, instructions | Ratio |
 |---|---|---|---|---|---|---|
@@ -47,13 +48,17 @@ TAIL = """
 - Time depends on where the linker puts a loop. In a trial, 0, 16, 32 and 48 bytes were put before the same library. Of the second
   implementation's time a byte fed alone came to 0.96 or 0.97, a frame fed in one call to 0.80, 0.81, 0.82 and 0.99, the rows of
   `pq_frame` to between 0.61 and 1.00 and `pq_read_frame` to between 0.63 and 0.83, the code being the same; every other row stayed
-  at 0.80 or under. In one more build a frame fed in one call came to 1.25. A table shows the one build it was taken from; the
-  instructions are the steadier number.
+  at 0.80 or under. In later builds a frame fed in one call came to 1.25, and `pq_read_frame` to 1.09, by the same instructions. A
+  table shows the one build it was taken from; the instructions are the steadier number.
 - `pq_read_frame` goes over a good string twice: a refusal may not touch the output, and the checksum stands last. The copy takes
   some 11 instructions for a byte; what it passes over behind a 10h goes by a branch that the processor guesses, not by a sum that
   would wait for the byte.
-- The check of the tree is most of a row with a tree (two thirds or more on the bench tree): about 6 instructions for a byte of
-  text (`soundness::texts::characters_end`), and 31 for the numbers of a property (`tree::record::read_fields`).
+- `pq_list` looks at the records of all nodes and all properties for each node, to count and to find its own: at worst nodes times
+  nodes, and nodes times properties. It needs no memory for that; the second implementation keeps a list of lengths for the nodes
+  and writes each entry where it belongs. These rows lend room for every listing; with less room than that the walk is made
+  twice, first to count.
+- The check of the tree is most of a row with a tree, listings apart (two thirds or more on the bench tree): about 6 instructions
+  for a byte of text (`soundness::texts::characters_end`), and 31 for the numbers of a property (`tree::record::read_fields`).
 """
 
 
@@ -62,7 +67,7 @@ def what(row):
         return WHAT[row]
     call, tree = row.split("-")
     tree = {"bench": "bench tree", "largest": "largest tree"}[tree]
-    if call in ("check", "reading"):
+    if call in ("check", "list", "reading"):
         return f"`pq_{call}`, {tree}"
     return f"`pq_serve_data`, op {call[2:]}, {tree}"
 

@@ -89,6 +89,21 @@ static void on_cells(uint8_t *none)
     EXPECT(1, pq_reading(wide, sizeof wide, none, 0, 0, &word));
 }
 
+static void on_listings(uint8_t *none)
+{
+    /* The lines of the node alone: path=1, name=B, children=0, properties=0. */
+    const size_t lines = 7 + 7 + 11 + 13;
+
+    EXPECT(8, pq_list(tree, sizeof tree, none, 0, &len));
+    EXPECT(lines, len);
+    EXPECT(1, pq_list(none, 0, none, 0, &len));
+    EXPECT(0, len);
+    EXPECT(0, pq_list(tree, sizeof tree, out, lines, &len));
+    EXPECT(lines, len);
+    EXPECT(1, pq_list(none, 0, out, sizeof out, &len));
+    EXPECT(0, len);
+}
+
 static void on_serving(uint8_t *none)
 {
     static const uint8_t detect[] = {0xB4, 0}, node[] = {0xB4, 1, 1}, read[] = {0xB4, 3, 1, 1};
@@ -141,6 +156,7 @@ int main(void)
     for (size_t i = 0; i < 2; i++) {
         on_streams(pointers[i]);
         on_cells(pointers[i]);
+        on_listings(pointers[i]);
         on_serving(pointers[i]);
         on_frames(pointers[i]);
         on_requests(pointers[i]);

@@ -3,14 +3,17 @@ every return address, that of the export itself among them. Of C's memcpy and me
 
 Usage: stack.py LIBRARY [HEADER]. Prints the table of the header. With a HEADER, sees that the table stands in it.
 
-Reads what objdump prints. The depth of each function is followed from instruction to instruction. It ends with an error where it
-does not understand how one moves the stack pointer or where one jumps to, and where functions call each other in a circle.
+Reads what objdump prints. The depth of each function is followed from instruction to instruction. A function that calls itself is
+counted as often as NESTED says. It ends with an error where it does not understand how one moves the stack pointer or where one
+jumps to, where a function calls itself that NESTED does not have, and where several call each other in a circle.
 """
 import re
 import subprocess
 import sys
 
 C_FUNCTIONS = ("memcpy", "memset")
+# How often a function that calls itself stands on the stack: once for each level of a tree, once for each digit of a word.
+NESTED = {"listing::walk::walk_children": 16, "text::number::put_decimal": 10}
 RETURN = re.compile(r"(rep[a-z]* )?ret")
 FILLER = re.compile(r"nop|xchg +%ax,%ax|data16|cs nop|int3|ud2")
 
@@ -111,6 +114,8 @@ def leads(function, address, step):
             refuse(function.name, "a jump that leads to no known place: " + step)
         return function.targets, None
     if re.match(r"call", step):
+        if link is None and step.endswith(f" 0 <{function.name}>"):
+            link = function.name
         if link is None:
             refuse(function.name, "a call of no known function: " + step)
         return [following], link
@@ -153,16 +158,18 @@ def need(functions, name, above=()):
     if name not in functions:
         refuse(above[-1], "calls " + name)
     function = functions[name]
-    most = 0
+    most = again = 0
     for address, depth in depths(function).items():
         step = function.code[address]
         beyond = re.search(r"-0x([0-9a-f]+)\(%rsp", step)
         most = max(most, depth + moved(function, step), depth + int(beyond.group(1), 16) if beyond else 0)
         callee = leads(function, address, step)[1]
-        if callee:
-            returns = 8 if step.startswith("call") else 0
+        returns = 8 if step.startswith("call") else 0
+        if callee == name and name in NESTED:
+            again = max(again, depth + returns)
+        elif callee:
             most = max(most, depth + returns + need(functions, callee, above + (name,)))
-    return most
+    return again * (NESTED.get(name, 1) - 1) + most
 
 
 # The table, in three columns, as it stands in a comment of the header.

@@ -1,4 +1,5 @@
 // A call of the library by its kind, for the program `cases`: numbers and slices in, a number and the first bytes of an output out.
+mod listings;
 mod readings;
 mod requests;
 mod serve;
@@ -51,7 +52,10 @@ fn call(n: Numbers, string: &[u8], tree: &[u8], lent: &mut [u8], out: &mut [u8])
     if n.kind < 0x40 {
         return serve::run(n, string, tree, lent, out);
     }
-    readings::run(n, tree, lent, out)
+    if n.kind < 0x50 {
+        return readings::run(n, tree, lent, out);
+    }
+    listings::run(n, tree, out)
 }
 
 // The same, where the kind is known. What it tells lies in the output.

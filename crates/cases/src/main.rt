@@ -1,4 +1,4 @@
-// The cases of documents 01 and 003. Each is a line of standard input and gives a line of output: name, number, bytes.
+// The cases of documents 01, 02 and 003. Each is a line of standard input and gives a line of output: name, number, bytes.
 // tests/cases.py writes both, and works out what this program must print.
 //
 // A line has five fields with `|` between them: the name of the case, then four in hex with capital letters.
@@ -24,8 +24,8 @@ const NUMBERS: usize = 12;
 // The most bytes that a field has.
 const FIELD_ROOM: usize = 1024;
 
-// The most room that a case gives its output.
-const OUT_ROOM: usize = 520;
+// The most room that a case gives its output: for the longest listing.
+const OUT_ROOM: usize = 2560;
 
 // The numbers of a case from their bytes.
 fn numbers_of(b: &[u8; NUMBERS]) -> Numbers {

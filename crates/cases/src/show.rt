@@ -2,7 +2,7 @@
 use libc::STDOUT_FILENO;
 
 fn show_byte(b: u8) {
-    let digits = console::text::hex_byte(b);
+    let digits = text::number::hex_byte(b);
     io::write_all(STDOUT_FILENO, &digits);
 }
 

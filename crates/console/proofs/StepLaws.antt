@@ -14,7 +14,7 @@ use Rattle.protocol.specs.Buffer.{Put, Emits, over}
 use Rattle.protocol.proofs.BufferLaws.{over-put, over-nil}
 use Rattle.stream.specs.Feed.{FedBy, fed, Feeds}
 use Rattle.answer.specs.Serve.{Service, Serves}
-use Rattle.console.specs.Text.{lines}
+use Rattle.console.specs.Lines.{lines}
 use Rattle.console.specs.Bench.{benchAddress, textRoom, served, serialReply, shows, stepped, Steps}
 use Rattle.console.specs.Steps.{ServesLines}
 

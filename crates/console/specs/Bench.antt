@@ -12,7 +12,7 @@ use Rattle.protocol.specs.Bench.{benchTree}
 use Rattle.stream.specs.Feed.{FedBy, fed}
 use Rattle.tree.specs.Form.{treeForm}
 use Rattle.answer.specs.Serve.{Service, serveData}
-use Rattle.console.specs.Text.{lines}
+use Rattle.console.specs.Lines.{lines}
 
 -- The box's address.
 abbrev pub benchAddress : ℕ

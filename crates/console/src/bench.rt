@@ -1,5 +1,5 @@
 // The bench: the stream reader and the bench tree, address 0, host functions on.
-use super::text;
+use super::lines;
 use protocol::DONE;
 use protocol::NO_FRAME;
 ghost use Prim.Native.Nat.{_≤_};
@@ -25,7 +25,7 @@ fn serve_lines(cells: &mut [u8], request: &[u8], out: &mut [u8]) -> usize
     let mut wire = [0u8; 520];
     let framed = frame::write::write_frame(ADDRESS, &reply[..len], &mut wire);
     let size = framed.len;
-    text::put_lines(told.number, &wire[..size], out)
+    lines::put_lines(told.number, &wire[..size], out)
 }
 
 // What a step returns: how many bytes it took, and the length of the lines that it put at the front of the text.
@@ -54,6 +54,6 @@ pub fn step(state: &mut [u8], cells: &mut [u8], bytes: &[u8], out: &mut [u8]) ->
         let len = serve_lines(cells, &payload[..size], out);
         return Shown { taken, len };
     }
-    let len = text::put_lines(number, &payload[..0], out);
+    let len = lines::put_lines(number, &payload[..0], out);
     Shown { taken, len }
 }

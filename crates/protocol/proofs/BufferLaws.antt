@@ -136,7 +136,7 @@ put-room {at} {r} {ys} {old} p k h =
 pub put-fits : {at r : ℕ} {ys old new : List ℕ} → at + length ys ≤ length old → Put at (fitting at ys old) old r new → Put at ys old r new
 put-fits {at} {r} {ys} {old} {new} h p = subst (λ l. Put at l old r new) (take-all (length old - at) ys (omega (arith, h))) p
 
-no-room : (n m : ℕ) → n ≤ m → n - m ≡ 0
+pub no-room : (n m : ℕ) → n ≤ m → n - m ≡ 0
 no-room n m h = omega arith
 
 -- The same behind other bytes.

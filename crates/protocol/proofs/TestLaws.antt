@@ -4,7 +4,7 @@ use Prim.Native.Nat.{ℕ, zero, suc, _≤_}
 use native.Mathlib.Omega.{arith}
 use mathlib.Core.Path.{_≡_, refl, sym, _∙_}
 use mathlib.Core.Bool.{Bool, true, false, cond, _&&_, and-eq-true-iff}
-use mathlib.Core.List.{List, [], _∷_, _++_}
+use mathlib.Core.List.{List, [], _∷_, _++_, map}
 use borrow.Author.Tests.{eqb-true, eqb-false, leb-true, leb-false}
 use lib.ListN.{getD, set}
 use lib.Dec.{eqb, leb}
@@ -77,3 +77,8 @@ module _ {A : Type 0} (f : A → Bool) where
   every-weaker g w [] h = refl
   every-weaker g w (x ∷ xs) h =
       and-both (w x (and-left (f x) (every f xs) h)) (every-weaker g w xs (and-right (f x) (every f xs) h))
+
+  pub every-map : {B : Type 0} (g : B → A) → ((x : B) → f (g x) ≡ true) → (xs : List B) → every f (map g xs) ≡ true
+  unfolding every
+  every-map g h [] = refl
+  every-map g h (x ∷ xs) = and-both (h x) (every-map g h xs)

@@ -1,6 +1,6 @@
--- Documents 01 (the rules of the build) and 003 (PENKO's PDI) as definitions on plain values: lists of bytes, records,
--- options. Read them in this order. Each comment names the section that the definition states. What is proved of them
--- stands in proofs/.
+-- Documents 01 (the rules of the build), 02 (the requests made after it) and 003 (PENKO's PDI) as definitions on plain values:
+-- lists of bytes, records, options. Read them in this order. Each comment names the section that the definition states. What is
+-- proved of them stands in proofs/.
 pub mod Numbers
 pub mod Bytes
 pub mod Frame
@@ -8,6 +8,9 @@ pub mod Buffer
 pub mod Stream
 pub mod Request
 pub mod Tree
+pub mod Text
+pub mod Listing
+pub mod Listed
 pub mod Answer
 pub mod Bench
 pub mod Marked

@@ -16,6 +16,7 @@ ghost use Rattle.protocol.specs.Request as rule;
 ghost use Rattle.protocol.specs.Request.{requestOf, readSerial, readUdp, serialForm, udpForm};
 ghost use Rattle.stream.specs.State.{stateLength};
 ghost use Rattle.stream.specs.Feed.{fed, Feeds};
+ghost use Rattle.listing.specs.Lists.{Lists};
 ghost use Rattle.request.specs.Asked.{AskedIs};
 ghost use Rattle.compose.specs.Write.{writeRequest};
 ghost use Rattle.cells.specs.Lent.{lentNumber, Updates, postIn, restoreIn, Reads, readIn};
@@ -99,6 +100,16 @@ pub extern "C" fn pq_cells_size(tree: &[u8]) -> usize
         return 0;
     }
     tree::record::property_count(tree) * cells::CELL_SIZE
+}
+
+// The listing of a tree: 1, 8 or 0. Its length is told with 8 too.
+#[no_mangle]
+pub extern "C" fn pq_list(tree: &[u8], out: &mut [u8], len: &mut usize) -> u8
+    ensures { λ r. ⌜ Lists (now (tree .entry)) (now (out .entry)) r (now (len .exit)) (now (out .exit)) ⌝ }
+{
+    let listed = listing::list(tree, out);
+    *len = listed.len;
+    listed.number
 }
 
 // Cells that begin: every word 0, none ready: 1 or 0.

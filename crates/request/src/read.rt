@@ -71,7 +71,7 @@ fn read_indexed(op: u8, value: u32, bs: &[u8]) -> Asked
 fn read_valued(op: u8, bs: &[u8]) -> Asked
     ensures { λ r. ⌜ AskedIs (readValued op (now (bs .entry))) r ⌝ }
 {
-    let end = table::before_zero(bs);
+    let end = word::before_zero(bs);
     if bs.len() != end + 5 {
         return refusal(BAD_PARAMETER);
     }

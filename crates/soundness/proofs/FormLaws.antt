@@ -1,4 +1,4 @@
--- The form of a sound tree reads back as that tree.
+-- The form of a sound tree reads back as that tree, and is at most 27,330 bytes long.
 -- Assumes nothing.
 use Prim.Native.Nat.{ℕ, _+_, _*_, _<_, _≤_}
 use native.Mathlib.Omega.{arith}
@@ -91,9 +91,10 @@ module _ (t : Tree) (ok : Sound t) where
   abbrev propertyRecords : List ℕ
   propertyRecords = allRecords recordTexts propertyRecord mid (t .properties)
 
-  -- Every place of a text fits 16 bits.
-  pub places-fit : mid + length (labelsOf t) < halfEnd
-  places-fit =
+  -- Where the texts end: behind 2 counts, at most 64 records of 3 bytes, 128 of 16, 64 names of 24 with their zeros, and 128
+  -- times a label of 24 and a unit or options of 160. So every place of a text fits 16 bits.
+  texts-end : mid + length (labelsOf t) ≤ 27330
+  texts-end =
       omega (
         arith,
         ok .nodes,
@@ -101,6 +102,9 @@ module _ (t : Tree) (ok : Sound t) where
         texts-bound nodeTexts nodeGood nameRoom (λ x. name-fits (x .name)) (t .nodes) (ok .names),
         texts-bound recordTexts (propertySound n) 184 (texts-fit n) (t .properties) (ok .each),
       )
+
+  pub places-fit : mid + length (labelsOf t) < halfEnd
+  places-fit = omega (arith, texts-end)
 
   -- The parts of a form, from their places on.
   nodes-there : drop 2 f ≡ nodeRecords ++ (propertyRecords ++ (namesOf t ++ labelsOf t))
@@ -230,3 +234,22 @@ tree-sound bs t h =
       ap sound (sym is) ∙ and-right (same bs (treeForm (seen bs))) _ passed,
       same-eq bs (treeForm (seen bs)) (and-left (same bs (treeForm (seen bs))) _ passed) ∙ ap treeForm is,
     )
+
+-- No form of a sound tree is longer than 27,330 bytes, and neither are bytes that stand for one.
+pub form-longest : (t : Tree) → sound t ≡ true → length (treeForm t) ≤ 27330
+form-longest t h =
+    let ok : Sound t = sound-parts t h in
+    omega (arith, length-form t ok, texts-end t ok)
+
+pub tree-longest : (bs : List ℕ) → isTree bs ≡ true → length bs ≤ 27330
+unfolding treeOf
+tree-longest bs h =
+    let read = tree-sound bs (seen bs) (ap (λ b. cond b (some (seen bs)) none) h) in
+    omega (arith, ap length (read .1), form-longest (seen bs) (read .0))
+
+-- All records of a lent tree lie in its bytes.
+pub records-within : (bs : List ℕ) → isTree bs ≡ true → textsStart (length (seen bs .nodes)) (length (seen bs .properties)) ≤ length bs
+unfolding treeOf
+records-within bs h =
+    let read = tree-sound bs (seen bs) (ap (λ b. cond b (some (seen bs)) none) h) in
+    omega (arith, ap length (read .1), length-form (seen bs) (sound-parts (seen bs) (read .0)))

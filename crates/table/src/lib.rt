@@ -5,22 +5,7 @@ use protocol::OP_NODE;
 use protocol::OP_READ;
 use protocol::PropertyIndex;
 ghost use mathlib.Core.Path.{_≡_};
-ghost use Rattle.protocol.specs.Request.{requestOf, beforeZero, isPath, pathFits, indexFits, valueFits, fits};
-
-// How many bytes stand before the first zero.
-pub fn before_zero(bs: &[u8]) -> usize
-    ensures { λ r. ⌜ r ≡ beforeZero (now (bs .entry)) ⌝ }
-{
-    let mut end = bs.len();
-    let mut i = 0;
-    while i < end {
-        if bs[i] == 0 {
-            end = i;
-        }
-        i += 1;
-    }
-    end
-}
+ghost use Rattle.protocol.specs.Request.{requestOf, isPath, pathFits, indexFits, valueFits, fits};
 
 // Whether bytes are a path: 1 to 16 of them, none of them 0.
 fn is_path(path: &[u8]) -> bool
@@ -32,7 +17,7 @@ fn is_path(path: &[u8]) -> bool
     if MAX_DEPTH < path.len() {
         return false;
     }
-    before_zero(path) == path.len()
+    word::before_zero(path) == path.len()
 }
 
 // Each part of a request: by its rule where the op asks for it, and else empty or 0.

@@ -2,13 +2,13 @@
 -- Assumes nothing.
 use Prim.Native.Nat.{ℕ, zero, suc, _+_, _-_, _*_, _%_, _<_, _≤_}
 use native.Mathlib.Omega.{arith}
-use native.Mathlib.Nat.{not-suc-le-zero}
+use native.Mathlib.Nat.{not-suc-le-zero, add-zero}
 use native.Mathlib.Numerals.{add-one}
 use mathlib.Core.Path.{_≡_, refl, sym, ap, ap₂, subst, _∙_}
 use mathlib.Core.Bool.{Bool, true, false, cond}
 use mathlib.Core.List.{List, [], _++_, append-nil}
 use borrow.Author.Tests.{ltb-true, ltb-false, eqb-true, eqb-false}
-use lib.ListN.{length, getD, take, drop, set, replicate, length-set, List·getD-eq-default}
+use lib.ListN.{length, getD, take, drop, set, replicate, length-set, length-drop, drop-of-length-le, List·getD-eq-default}
 use lib.Seq.{getD-drop, drop-drop, drop-length, getD-set-same, getD-set-other}
 use lib.Dec.{eqb, ltb}
 use Rattle.protocol.specs.Numbers.{enumeration}
@@ -18,11 +18,13 @@ use Rattle.protocol.specs.Request.{beforeZero}
 use Rattle.protocol.specs.Tree.{Node, Property, Tree, nodeIn, propertyIn}
 use Rattle.protocol.specs.Answer.{recordTexts}
 use Rattle.protocol.proofs.BufferLaws.{part-lent}
+use Rattle.protocol.proofs.RequestLaws.{zero-within}
+use Rattle.tree.specs.declared.part.Part.{Part}
 use Rattle.tree.specs.declared.record.Fields.{Fields}
 use Rattle.tree.specs.Form.{nodeSize, propertySize, propertiesStart}
 use Rattle.tree.specs.Seen.{halfAt, wordAt, firstText, afterText, textsFrom, nodeSeen, propertySeen, optionCount, nodeCount, propertyCount, seen}
 use Rattle.tree.specs.Steps.{entries}
-use Rattle.tree.specs.Lookup.{FieldsAre}
+use Rattle.tree.specs.Lookup.{FieldsAre, PartIs}
 use Rattle.tree.proofs.RecordLaws.{records-length, records-at}
 use Rattle.tree.proofs.NumberLaws.{entries-at, entries-alike, half-behind, word-behind}
 use Rattle.tree.proofs.TextLaws.{texts-one}
@@ -233,3 +235,67 @@ module _ (bs : List ℕ) (place : ℕ) where
 pub put-texts-as : {at r : ℕ} {ys zs old new : List ℕ} (room : ℕ) → ys ≡ zs → Put at (take room ys) old r new
     → Put at (take room zs) old r new
 put-texts-as {at} {r} {old = old} {new = new} room e p = subst (λ l. Put at (take room l) old r new) e p
+
+-- A node's parent, and a property's node: the first byte of its record.
+first-of : (at : ℕ) (bs : List ℕ) → getD (drop at bs) 0 0 ≡ getD bs at 0
+first-of at bs = getD-drop at bs 0 0 ∙ ap (λ n. getD bs n 0) (add-zero at)
+
+module _ (bs : List ℕ) (place : ℕ) where
+  pub parent-at : {b : ℕ} → place < nodeCount bs → b ≡ getD bs (nodePlace place) 0 → b ≡ nodeIn (seen bs) place .parent
+  unfolding nodeSeen
+  parent-at h e = e ∙ sym (ap (λ x. x .parent) (node-at bs place h) ∙ first-of (nodePlace place) bs)
+
+  pub property-node-at : {start b : ℕ} → place < propertyCount bs → start ≡ propertiesStart (nodeCount bs)
+      → b ≡ getD bs (start + place * propertySize) 0 → b ≡ propertyIn (seen bs) place .node
+  unfolding propertySeen
+  property-node-at h f e =
+      e
+      ∙ ap (λ n. getD bs (n + place * propertySize) 0) f
+      ∙ sym (ap (λ x. x .node) (property-at bs place h) ∙ first-of (propertyPlace bs place) bs)
+
+-- Where a text lies: an empty one anywhere, and one that begins at a place.
+pub part-empty : (bs : List ℕ) {s : List ℕ} → s ≡ [] → PartIs s bs (record { start = 0; end = 0 })
+part-empty bs e = record { ordered = omega arith; within = omega arith; is = sym e }
+
+pub part-past : (bs : List ℕ) (from : ℕ) → length bs < from → PartIs (firstText (drop from bs)) bs (record { start = 0; end = 0 })
+unfolding beforeZero
+part-past bs from h = part-empty bs (ap firstText (drop-of-length-le bs {i = from} (omega (arith, h))))
+
+pub part-at : (bs : List ℕ) (from : ℕ) {n : ℕ} → from ≤ length bs → n ≡ beforeZero (take (length bs - from) (drop from bs))
+    → PartIs (firstText (drop from bs)) bs (record { start = from; end = from + n })
+part-at bs from {n} h e =
+    let size : n ≡ beforeZero (drop from bs) = e ∙ ap beforeZero (part-lent from bs) in
+    let back : from + n - from ≡ beforeZero (drop from bs) = omega (arith, size) in
+    record {
+      ordered = omega arith;
+      within = omega (arith, size, zero-within (drop from bs), length-drop from bs, h);
+      is = ap (λ m. take m (drop from bs)) back;
+    }
+
+-- A node's name, and a property's label.
+module _ (bs : List ℕ) (place : ℕ) where
+  pub name-past : nodeCount bs ≤ place → PartIs (nodeIn (seen bs) place .name) bs (record { start = 0; end = 0 })
+  name-past h = part-empty bs (ap (λ x. x .name) (node-none bs place h))
+
+  pub label-past : propertyCount bs ≤ place → PartIs (propertyIn (seen bs) place .label) bs (record { start = 0; end = 0 })
+  label-past h = part-empty bs (ap (λ x. x .label) (property-none bs place h))
+
+module _ (bs : List ℕ) (place : ℕ) {r : Part} where
+  pub name-part : {from : ℕ} → place < nodeCount bs → from ≡ halfAt (3 + place * nodeSize) bs → PartIs (firstText (drop from bs)) bs r
+      → PartIs (nodeIn (seen bs) place .name) bs r
+  unfolding nodeSeen
+  name-part h e p =
+      subst (λ s. PartIs s bs r)
+      (ap (λ i. firstText (drop i bs)) (e ∙ sym (name-place bs place)) ∙ sym (ap (λ x. x .name) (node-at bs place h)))
+      p
+
+  pub label-part : {start from : ℕ} → place < propertyCount bs → start ≡ propertiesStart (nodeCount bs)
+      → from ≡ halfAt (start + place * propertySize + 14) bs → PartIs (firstText (drop from bs)) bs r
+      → PartIs (propertyIn (seen bs) place .label) bs r
+  unfolding propertySeen
+  label-part {start} h f e p =
+      subst (λ s. PartIs s bs r)
+      (ap (λ i. firstText (drop i bs)) (e ∙ sym (half-behind (start + place * propertySize) bs 14))
+      ∙ ap (λ n. propertySeen bs (drop (n + place * propertySize) bs) .label) f
+      ∙ sym (ap (λ x. x .label) (property-at bs place h)))
+      p

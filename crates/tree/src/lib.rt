@@ -2,6 +2,7 @@
 // call gets it as bytes (docs/FORMATS.md) and trusts none of them.
 pub mod bench;
 pub mod bytes;
+pub mod part;
 pub mod record;
 mod texts;
 

@@ -78,6 +78,13 @@ pub fn at_most(signed: bool, m: u32, n: u32) -> bool
     ordered_word(signed, m) <= ordered_word(signed, n)
 }
 
+// How many nodes there are.
+pub fn node_count(tree: &[u8]) -> usize
+    ensures { λ r. ⌜ r ≡ length (seen (now (tree .entry)) .nodes) ⌝ }
+{
+    word::wide(bytes::byte_at(tree, 0))
+}
+
 // How many properties there are.
 pub fn property_count(tree: &[u8]) -> usize
     ensures { λ r. ⌜ r ≡ length (seen (now (tree .entry)) .properties) ⌝ }

@@ -1,8 +1,9 @@
-// Numbers made of bytes, the high byte first.
+// Numbers made of bytes, the high byte first, and where a text ends.
 ghost use mathlib.Core.Path.{_≡_};
 ghost use Prim.Native.Nat.{_+_, _*_, _<_, _^_};
 ghost use mathlib.Core.List.{[], _∷_};
 ghost use Rattle.protocol.specs.Bytes.{number};
+ghost use Rattle.protocol.specs.Request.{beforeZero};
 
 // A byte as a place or a count.
 pub fn wide(b: u8) -> usize
@@ -33,4 +34,19 @@ pub fn word_of(first: u8, second: u8, third: u8, last: u8) -> u32
     let two = with_byte(first as u32, second);
     let three = with_byte(two, third);
     with_byte(three, last)
+}
+
+// How many bytes stand before the first zero.
+pub fn before_zero(bs: &[u8]) -> usize
+    ensures { λ r. ⌜ r ≡ beforeZero (now (bs .entry)) ⌝ }
+{
+    let mut end = bs.len();
+    let mut i = 0;
+    while i < end {
+        if bs[i] == 0 {
+            end = i;
+        }
+        i += 1;
+    }
+    end
 }

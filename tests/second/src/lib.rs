@@ -1,8 +1,9 @@
-//! A second implementation of the box, written from document 01 (the rules), document 003 (PENKO PDI), docs/FORMATS.md (the
-//! lent forms) and include/pualirqiq.h (the calls), and from none of the library's code. It is there to be compared.
+//! A second implementation of the box, written from documents 01 and 02 (the rules), document 003 (PENKO PDI), docs/FORMATS.md
+//! (the lent forms) and include/pualirqiq.h (the calls), and from none of the library's code. It is there to be compared.
 pub mod bench;
 pub mod cells;
 pub mod frame;
+pub mod listing;
 pub mod request;
 pub mod serve;
 pub mod stream;

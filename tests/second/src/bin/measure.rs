@@ -9,13 +9,15 @@ mod library;
 
 use library::*;
 use second::tree::Tree;
-use second::{bench, cells, frame, request, serve, stream};
+use second::{bench, cells, frame, listing, request, serve, stream};
 use std::hint::black_box;
 use std::time::{Duration, Instant};
 
 const ADDRESS: u8 = 0x3B;
 const REPEATS: usize = 100;
 const SLICE: Duration = Duration::from_millis(2);
+/// No listing is longer.
+const ROOM_LISTING: usize = 17_664;
 
 /// A row: its name, what it does, and how many units (bytes, or 1) one call is.
 struct Row {
@@ -34,17 +36,19 @@ enum Work {
     Serve { tree: Vec<u8>, cells: Vec<u8>, request: Vec<u8> },
     Check { tree: Vec<u8>, cells: Vec<u8> },
     Reading { tree: Vec<u8>, cells: Vec<u8>, place: usize },
+    List { tree: Vec<u8> },
 }
 
 /// Buffers that are lent over and over.
 struct Desk {
     state: Vec<u8>,
     out: Vec<u8>,
+    page: Vec<u8>,
 }
 
 impl Desk {
     fn new() -> Desk {
-        Desk { state: vec![0; stream::STATE_SIZE], out: vec![0; second::ROOM_SERIAL] }
+        Desk { state: vec![0; stream::STATE_SIZE], out: vec![0; second::ROOM_SERIAL], page: vec![0; ROOM_LISTING] }
     }
 }
 
@@ -92,7 +96,7 @@ fn request_data(op: u8, path: &[u8], index: u8, value: u32) -> Vec<u8> {
     data
 }
 
-/// Each op on a tree, the firmware's reading of the same property, and the check of the tree.
+/// Each op on a tree, the firmware's reading of the same property, the tree's listing and its check.
 fn tree_rows(rows: &mut Vec<Row>, name: &str, tree: Vec<u8>, cells: Vec<u8>, path: &[u8], index: u8) {
     for op in 0..=5 {
         let request = request_data(op, path, index, 1);
@@ -100,6 +104,7 @@ fn tree_rows(rows: &mut Vec<Row>, name: &str, tree: Vec<u8>, cells: Vec<u8>, pat
     }
     let place = Tree::read(&tree).and_then(|tree| tree.property(tree.node(path)?, index)).expect("a property");
     rows.push(row(&format!("reading-{name}"), 1, Work::Reading { tree: tree.clone(), cells: cells.clone(), place }));
+    rows.push(row(&format!("list-{name}"), 1, Work::List { tree: tree.clone() }));
     rows.push(row(&format!("check-{name}"), 1, Work::Check { tree, cells }));
 }
 
@@ -155,6 +160,9 @@ fn library_once(work: &mut Work, desk: &mut Desk) -> u8 {
             Work::Reading { tree, cells, place } => {
                 pq_reading(tree.as_ptr(), tree.len(), cells.as_ptr(), cells.len(), *place, &mut value)
             }
+            Work::List { tree } => {
+                pq_list(tree.as_ptr(), tree.len(), desk.page.as_mut_ptr(), desk.page.len(), &mut long)
+            }
         }
     }
 }
@@ -174,6 +182,7 @@ fn second_once(work: &mut Work, desk: &mut Desk) -> u8 {
         }
         Work::Check { tree, cells } => cells::check(tree, cells),
         Work::Reading { tree, cells, place } => number(black_box(cells::reading(tree, cells, *place))),
+        Work::List { tree } => black_box(listing::list(tree, &mut desk.page)).number,
     }
 }
 
@@ -236,13 +245,13 @@ fn best(row: &mut Row) -> [f64; 2] {
     best
 }
 
-/// Both must come to the same number, and to 0 where the row means a good request or reading.
+/// Both must come to the same number, and to 0 where the row means a good request, reading or listing.
 fn agree(row: &mut Row) -> bool {
     let ours = library_once(&mut row.work, &mut Desk::new());
     if let Work::Feed { at, .. } = &mut row.work {
         *at = 0;
     }
-    let good = matches!(row.work, Work::Serve { .. } | Work::Reading { .. } | Work::ReadFrame { .. });
+    let good = matches!(row.work, Work::Serve { .. } | Work::Reading { .. } | Work::ReadFrame { .. } | Work::List { .. });
     ours == second_once(&mut row.work, &mut Desk::new()) && (ours == 0 || !good)
 }
 

@@ -3,12 +3,14 @@ use Prim.Native.Nat.{_≤_}
 use native.Mathlib.Omega.{arith}
 use mathlib.Core.Path.{subst}
 use mathlib.Core.Bool.{true}
-use lib.ListN.{length}
+use lib.ListN.{length, take, replicate}
 use lib.Seq.{length-take-le}
-use Rattle.protocol.specs.Numbers.{roomData}
+use Rattle.protocol.specs.Numbers.{roomSerial, roomData}
+use Rattle.protocol.specs.Frame.{writeFrame, ifRoom}
+use Rattle.protocol.specs.Buffer.{Emits}
 use Rattle.protocol.proofs.ListLaws.{part-size}
 use Rattle.answer.specs.Serve.{serveData}
-use Rattle.console.specs.Bench.{served}
+use Rattle.console.specs.Bench.{benchAddress, served}
 use Rattle.console.specs.Steps.{ServesLines}
 use Rattle.console.proofs.StepLaws.{front-within, lined}
 use borrow.Author.Needs.{needs}
@@ -84,10 +86,12 @@ returns c =
     let framed = shown .before .before .before .before in
     let told = served-of framed in
     let start = start-of told in
+    let emitted : Emits (ifRoom roomSerial 520 (writeFrame benchAddress (take (told .serve-data .result .len) (told .serve-data .last .1 .1 .1 .1 .0))))
+    (replicate 520 0) (framed .write-frame .result .number) (framed .write-frame .result .len) (framed .write-frame .last .1 .1 .0) = framed .write-frame .ensures in
     subst (λ t. ServesLines (serveData roomData (start .args .request .now) true t (start .args .cells .now)) (start .args .out .now)
     (shown .put-lines .result) (told .serve-data .last .1 .0) (shown .put-lines .last .1 .1 .0))
     (tree-of told .tree .ensures)
-    (lined (serveData roomData (start .args .request .now) true (tree-of told .tree .result) (start .args .cells .now)) (told .serve-data .ensures) (omega arith) (framed .write-frame .ensures) (shown .put-lines .ensures))
+    (lined (serveData roomData (start .args .request .now) true (tree-of told .tree .result) (start .args .cells .now)) (told .serve-data .ensures) (omega arith) emitted (shown .put-lines .ensures))
 
 pub serve-lines-spec : {M : Type 1} → statement M
 serve-lines-spec =

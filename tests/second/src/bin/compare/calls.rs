@@ -1,9 +1,10 @@
 //! An input given to the library, and to the second implementation.
 use crate::input::{Call, Input, Lent, Seen};
 use crate::library::*;
+use second::listing::Listed;
 use second::request::Request;
 use second::serve::Served;
-use second::{cells, frame, request, serve, stream, tree};
+use second::{cells, frame, listing, request, serve, stream, tree};
 
 /// What numbers that are handed back hold before the call: a word and the fields of a request hold it still after a refusal.
 const UNSET: u64 = 0xEEEE_EEEE_EEEE_EEEE;
@@ -60,6 +61,7 @@ unsafe fn call(i: &Input, lent: &mut Lent, back: &mut Back) -> (u8, [u64; 5]) {
         Call::Frame | Call::Datagram | Call::WriteSerial | Call::WriteUdp => call_write(i, lent, back),
         Call::ReadFrame | Call::DatagramData => call_data(i, lent, back),
         Call::ReadSerial | Call::ReadUdp => call_read(i, lent, back),
+        Call::List => call_list(lent, back),
         _ => call_cells(i, lent, back),
     }
 }
@@ -95,6 +97,13 @@ unsafe fn call_cells(i: &Input, lent: &mut Lent, back: &mut Back) -> (u8, [u64; 
         }
         _ => unreachable!("{:?} is another group's", i.call),
     }
+}
+
+unsafe fn call_list(lent: &mut Lent, back: &mut Back) -> (u8, [u64; 5]) {
+    let (tree, tree_len) = lend(&mut lent.tree);
+    let (out, out_len) = lend(&mut lent.out);
+    let len = &mut back.long[0];
+    (pq_list(tree, tree_len, out, out_len, len), one(*len as u64))
 }
 
 unsafe fn call_serve(i: &Input, lent: &mut Lent, back: &mut Back) -> (u8, [u64; 5]) {
@@ -183,6 +192,7 @@ fn answer(i: &Input, lent: &mut Lent) -> (u8, [u64; 5]) {
             written(request::write_serial(i.address, i.op, &lent.bytes, i.index, i.value, &mut lent.out))
         }
         Call::WriteUdp => written(request::write_udp(i.op, &lent.bytes, i.index, i.value, &mut lent.out)),
+        Call::List => listed(listing::list(&lent.tree, &mut lent.out)),
         _ => answer_cells(i, lent),
     }
 }
@@ -222,6 +232,10 @@ fn feed(i: &Input, lent: &mut Lent) -> (u8, [u64; 5]) {
 
 fn served(served: Served) -> (u8, [u64; 5]) {
     (served.number, two(served.len, served.action.into()))
+}
+
+fn listed(listed: Listed) -> (u8, [u64; 5]) {
+    (listed.number, one(listed.len as u64))
 }
 
 fn written(result: Result<usize, u8>) -> (u8, [u64; 5]) {

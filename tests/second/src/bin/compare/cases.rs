@@ -1,4 +1,4 @@
-//! The cases of document 01 and of its readings, each with the bytes the paper gives.
+//! The cases of document 01 and of its readings, each with the bytes the paper gives, and the bench tree's listing (document 02).
 use crate::input::{Call, Input};
 use crate::tally::Tally;
 
@@ -62,8 +62,20 @@ const READINGS: [[(u8, u32); 2]; 6] = [
 const DATAGRAMS: [(&str, u8, [u64; 2]); 4] =
     [("00000000 B4 00", 0, [4, 2]), ("00000000", 4, [0, 0]), ("000000", 2, [0, 0]), ("00000100 B4 00", 2, [0, 0])];
 
+/// The bench tree's listing.
+const LISTING: &[u8] = b"\
+    path=1\nname=Box\nchildren=2\nproperties=0\n\
+    path=1.1\nname=Live\nchildren=0\nproperties=2\n\
+    path=1.1\nindex=1\nlabel=Probe 1\ntype=1\n\
+    path=1.1\nindex=2\nlabel=Probe 2\ntype=1\n\
+    path=1.2\nname=Setup\nchildren=0\nproperties=3\n\
+    path=1.2\nindex=1\nlabel=Average\ntype=1\n\
+    path=1.2\nindex=2\nlabel=Rate\ntype=2\n\
+    path=1.2\nindex=3\nlabel=Restart\ntype=1\n";
+
 pub fn run(tally: &mut Tally) {
     tally.compare(&Input::of(Call::StateSize));
+    list_all(tally);
     serve_all(tally);
     read_all(tally);
     find_all(tally);
@@ -84,6 +96,17 @@ pub fn run(tally: &mut Tally) {
             let seen = tally.compare(&input);
             tally.expect(seen.number == number, "the number is the paper's", &input);
         }
+    }
+}
+
+fn list_all(tally: &mut Tally) {
+    let tree = second::bench::tree().write();
+    let len = LISTING.len();
+    for (part, room, number, told) in [(&tree[..], len, 0, len), (&tree, len - 1, 8, len), (&tree[1..], len, 1, 0)] {
+        let input = Input { tree: part, room, ..Input::of(Call::List) };
+        let seen = tally.compare(&input);
+        let same = seen.number == number && seen.fields[0] == told as u64;
+        tally.expect(same && (number == 0) == (seen.lent.out[..] == *LISTING), "the listing is the paper's", &input);
     }
 }
 

@@ -1,6 +1,7 @@
 //! Trees of 64 nodes and 128 properties, and their first and last entries: what is few enough is given all.
 use crate::draft::{broken_at, Draft, DraftProperty, BREAKS};
 use crate::input::{Call, Input};
+use crate::listings;
 use crate::random::Random;
 use crate::requests::{content, wrapped};
 use crate::sweep::each_change;
@@ -93,6 +94,8 @@ pub fn run(random: &Random, tally: &mut Tally) {
             let draft = draft(shape, turn);
             let tree = draft.form();
             look(tally, &tree);
+            listings::whole(tally, &draft, &tree);
+            listings::far(random, tally, &tree);
             ask_all(tally, &draft, &tree);
         }
     }

@@ -8,6 +8,7 @@ mod input;
 mod largest;
 #[path = "../../library.rs"]
 mod library;
+mod listings;
 mod random;
 mod requests;
 mod streams;
@@ -32,6 +33,7 @@ fn main() {
     if times >= 1.0 {
         sweep::run(&mut tally);
         largest::run(&random, &mut tally);
+        listings::run(&mut tally);
     }
     for round in 0..(ROUNDS * times) as usize {
         trees::run(&random, &mut tally, round);

@@ -1,5 +1,6 @@
 //! Inputs that are few enough to be given all: each byte at each place, each length, each room, each short string.
 use crate::input::{Call, Input};
+use crate::listings;
 use crate::requests::{content, wrapped};
 use crate::tally::Tally;
 use second::bench;
@@ -52,6 +53,8 @@ fn rooms(tally: &mut Tally, tree: &[u8]) {
         tally.compare(&Input { room, ..serving(Call::ServeUdp, tree, &datagram) });
         tally.compare(&Input { room, state: &state, bytes: &string, address: ADDRESS, ..Input::of(Call::Feed) });
         tally.compare(&Input { room, ..whole(&string) });
+        listings::list(tally, tree, room);
+        listings::list(tally, &tree[1..], room);
         for call in [Call::Frame, Call::Datagram, Call::WriteSerial, Call::WriteUdp] {
             tally.compare(&Input { room, bytes: &[1], op: 2, index: 1, address: ADDRESS, ..Input::of(call) });
         }
@@ -128,6 +131,7 @@ fn trees_changed(tally: &mut Tally, tree: &[u8]) {
         for call in [Call::Check, Call::CheckTree, Call::RestoreCells] {
             tally.compare(&Input { call, ..input });
         }
+        listings::near(tally, changed);
         for place in 0..=5 {
             tally.compare(&Input { call: Call::Reading, place, ..input });
         }

@@ -1,6 +1,7 @@
-//! Trees and cells: checked, posted to, read, restored, and requests served over them.
+//! Trees and cells: checked, listed, posted to, read, restored, and requests served over them.
 use crate::draft::{broken, Draft, BREAKS};
 use crate::input::{Call, Input};
+use crate::listings;
 use crate::random::Random;
 use crate::requests::{self, Transport};
 use crate::tally::Tally;
@@ -12,6 +13,8 @@ pub fn run(random: &Random, tally: &mut Tally, round: usize) {
     let tree = draft.form();
     let mut cells = draft.cells(random);
     check(tally, &tree, &cells, Some([0, 0]));
+    listings::whole(tally, &draft, &tree);
+    listings::far(random, tally, &tree);
     begin(random, tally, &tree, draft.properties.len());
     let few = tree.len() > 10_000;
     for _ in 0..if few { SERVED / 6 } else { SERVED } {
@@ -32,6 +35,7 @@ pub fn check(tally: &mut Tally, tree: &[u8], cells: &[u8], numbers: Option<[u8; 
     let seen = inputs.each_ref().map(|input| tally.compare(input).number);
     tally.expect(numbers.is_none_or(|numbers| numbers == seen), "the checks give the numbers meant", &inputs[0]);
     tally.compare(&Input { tree, ..Input::of(Call::CellsSize) });
+    listings::near(tally, tree);
 }
 
 fn begin(random: &Random, tally: &mut Tally, tree: &[u8], properties: usize) {

@@ -1,0 +1,51 @@
+// Where the texts of a tree lie in its bytes.
+use super::NODE_SIZE;
+use super::PROPERTY_SIZE;
+use super::bytes;
+use super::record;
+ghost use lib.ListN.{drop};
+ghost use Rattle.protocol.specs.Tree.{nodeIn, propertyIn};
+ghost use Rattle.tree.specs.Seen.{firstText, seen};
+ghost use Rattle.tree.specs.Lookup.{PartIs};
+
+// A part of a tree's bytes: from a place to the one before `end`.
+pub struct Part {
+    pub start: usize,
+    pub end: usize,
+}
+
+// The text that begins at a place, without the zero that ends it.
+fn text_at(tree: &[u8], from: usize) -> Part
+    ensures { λ r. ⌜ PartIs (firstText (drop from (now (tree .entry)))) (now (tree .entry)) r ⌝ }
+{
+    if tree.len() < from {
+        return Part { start: 0, end: 0 };
+    }
+    Part {
+        start: from,
+        end: from + word::before_zero(&tree[from..]),
+    }
+}
+
+// A node's name; empty where there is no such node.
+pub fn name(tree: &[u8], node: usize) -> Part
+    ensures { λ r. ⌜ PartIs (nodeIn (seen (now (tree .entry))) node .name) (now (tree .entry)) r ⌝ }
+{
+    if word::wide(bytes::byte_at(tree, 0)) <= node {
+        return Part { start: 0, end: 0 };
+    }
+    let from = bytes::half_at(tree, 3 + node * NODE_SIZE) as usize;
+    text_at(tree, from)
+}
+
+// A property's label; empty where there is no such property.
+pub fn label(tree: &[u8], place: usize) -> Part
+    ensures { λ r. ⌜ PartIs (propertyIn (seen (now (tree .entry))) place .label) (now (tree .entry)) r ⌝ }
+{
+    if word::wide(bytes::byte_at(tree, 1)) <= place {
+        return Part { start: 0, end: 0 };
+    }
+    let at = record::properties_start(tree) + place * PROPERTY_SIZE;
+    let from = bytes::half_at(tree, at + 14) as usize;
+    text_at(tree, from)
+}
