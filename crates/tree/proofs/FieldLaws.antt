@@ -7,9 +7,9 @@ use native.Mathlib.Numerals.{add-one}
 use mathlib.Core.Path.{_≡_, refl, sym, ap, ap₂, subst, _∙_}
 use mathlib.Core.Bool.{Bool, true, false, cond}
 use mathlib.Core.List.{List, [], _++_, append-nil}
-use borrow.Author.Tests.{ltb-true, ltb-false, eqb-true, eqb-false}
+use borrow.Author.Tests.{ltb-true, ltb-false, eqb-true, eqb-false, lt-ltb, le-ltb}
 use lib.ListN.{length, getD, take, drop, set, replicate, length-set, length-drop, drop-of-length-le, List·getD-eq-default}
-use lib.Seq.{getD-drop, drop-drop, drop-length, getD-set-same, getD-set-other}
+use lib.Seq.{getD-drop, drop-drop, drop-length, length-take-le, getD-set-same, getD-set-other}
 use lib.Dec.{eqb, ltb}
 use Rattle.protocol.specs.Numbers.{enumeration}
 use Rattle.protocol.specs.Bytes.{Bytes, text, texts}
@@ -24,7 +24,7 @@ use Rattle.tree.specs.declared.record.Fields.{Fields}
 use Rattle.tree.specs.Form.{nodeSize, propertySize, propertiesStart}
 use Rattle.tree.specs.Seen.{halfAt, wordAt, firstText, afterText, textsFrom, nodeSeen, propertySeen, optionCount, nodeCount, propertyCount, seen}
 use Rattle.tree.specs.Steps.{entries}
-use Rattle.tree.specs.Lookup.{FieldsAre, PartIs}
+use Rattle.tree.specs.Lookup.{FieldsAre, textStart, nameStart, labelStart, PartIs}
 use Rattle.tree.proofs.RecordLaws.{records-length, records-at}
 use Rattle.tree.proofs.NumberLaws.{entries-at, entries-alike, half-behind, word-behind}
 use Rattle.tree.proofs.TextLaws.{texts-one}
@@ -253,48 +253,67 @@ module _ (bs : List ℕ) (place : ℕ) where
       ∙ ap (λ n. getD bs (n + place * propertySize) 0) f
       ∙ sym (ap (λ x. x .node) (property-at bs place h) ∙ first-of (propertyPlace bs place) bs)
 
--- Where a text lies: an empty one anywhere, and one that begins at a place.
-pub part-empty : (bs : List ℕ) {s : List ℕ} → s ≡ [] → PartIs s bs (record { start = 0; end = 0 })
-part-empty bs e = record { ordered = omega arith; within = omega arith; is = sym e }
+-- Where a text lies: an empty one at the front, and one that begins at a place.
+part-empty : (bs : List ℕ) {s : List ℕ} → s ≡ [] → PartIs 0 s bs (record { start = 0; end = 0 })
+part-empty bs e = record { starts = refl; ends = omega (arith, ap length e); within = omega arith; is = sym e }
 
-pub part-past : (bs : List ℕ) (from : ℕ) → length bs < from → PartIs (firstText (drop from bs)) bs (record { start = 0; end = 0 })
+-- The same part, for where it begins and for what it is.
+part-as : {from from′ : ℕ} {s s′ : List ℕ} (bs : List ℕ) {r : Part} → from ≡ from′ → s ≡ s′ → PartIs from s bs r → PartIs from′ s′ bs r
+part-as {from} {s′ = s′} bs {r} e f p = subst (λ n. PartIs n s′ bs r) e (subst (λ l. PartIs from l bs r) f p)
+
+pub part-past : (bs : List ℕ) (from : ℕ) → length bs < from
+    → PartIs (textStart bs from) (firstText (drop from bs)) bs (record { start = 0; end = 0 })
 unfolding beforeZero
-part-past bs from h = part-empty bs (ap firstText (drop-of-length-le bs {i = from} (omega (arith, h))))
+part-past bs from h =
+    part-as bs (sym (rw (lt-ltb (length bs) from h))) refl
+    (part-empty bs (ap firstText (drop-of-length-le bs {i = from} (omega (arith, h)))))
 
 pub part-at : (bs : List ℕ) (from : ℕ) {n : ℕ} → from ≤ length bs → n ≡ beforeZero (take (length bs - from) (drop from bs))
-    → PartIs (firstText (drop from bs)) bs (record { start = from; end = from + n })
+    → PartIs (textStart bs from) (firstText (drop from bs)) bs (record { start = from; end = from + n })
 part-at bs from {n} h e =
     let size : n ≡ beforeZero (drop from bs) = e ∙ ap beforeZero (part-lent from bs) in
     let back : from + n - from ≡ beforeZero (drop from bs) = omega (arith, size) in
-    record {
-      ordered = omega arith;
+    let long : length (firstText (drop from bs)) ≡ beforeZero (drop from bs) =
+    length-take-le (beforeZero (drop from bs)) (drop from bs) (zero-within (drop from bs)) in
+    part-as bs (sym (rw (le-ltb (length bs) from h))) refl
+    (record {
+      starts = refl;
+      ends = omega (arith, size, long);
       within = omega (arith, size, zero-within (drop from bs), length-drop from bs, h);
       is = ap (λ m. take m (drop from bs)) back;
-    }
+    })
 
 -- A node's name, and a property's label.
 module _ (bs : List ℕ) (place : ℕ) where
-  pub name-past : nodeCount bs ≤ place → PartIs (nodeIn (seen bs) place .name) bs (record { start = 0; end = 0 })
-  name-past h = part-empty bs (ap (λ x. x .name) (node-none bs place h))
+  pub name-past : nodeCount bs ≤ place → PartIs (nameStart bs place) (nodeIn (seen bs) place .name) bs (record { start = 0; end = 0 })
+  unfolding nameStart
+  name-past h =
+      part-as bs (sym (rw (le-ltb place (nodeCount bs) h))) refl (part-empty bs (ap (λ x. x .name) (node-none bs place h)))
 
-  pub label-past : propertyCount bs ≤ place → PartIs (propertyIn (seen bs) place .label) bs (record { start = 0; end = 0 })
-  label-past h = part-empty bs (ap (λ x. x .label) (property-none bs place h))
+  pub label-past : propertyCount bs ≤ place
+      → PartIs (labelStart bs place) (propertyIn (seen bs) place .label) bs (record { start = 0; end = 0 })
+  unfolding labelStart
+  label-past h =
+      part-as bs (sym (rw (le-ltb place (propertyCount bs) h))) refl (part-empty bs (ap (λ x. x .label) (property-none bs place h)))
 
 module _ (bs : List ℕ) (place : ℕ) {r : Part} where
-  pub name-part : {from : ℕ} → place < nodeCount bs → from ≡ halfAt (3 + place * nodeSize) bs → PartIs (firstText (drop from bs)) bs r
-      → PartIs (nodeIn (seen bs) place .name) bs r
-  unfolding nodeSeen
+  pub name-part : {from : ℕ} → place < nodeCount bs → from ≡ halfAt (3 + place * nodeSize) bs
+      → PartIs (textStart bs from) (firstText (drop from bs)) bs r → PartIs (nameStart bs place) (nodeIn (seen bs) place .name) bs r
+  unfolding nodeSeen nameStart
   name-part h e p =
-      subst (λ s. PartIs s bs r)
+      let start : nameStart bs place ≡ textStart bs (halfAt (3 + place * nodeSize) bs) = rw (lt-ltb place (nodeCount bs) h) in
+      part-as bs (ap (textStart bs) e ∙ sym start)
       (ap (λ i. firstText (drop i bs)) (e ∙ sym (name-place bs place)) ∙ sym (ap (λ x. x .name) (node-at bs place h)))
       p
 
   pub label-part : {start from : ℕ} → place < propertyCount bs → start ≡ propertiesStart (nodeCount bs)
-      → from ≡ halfAt (start + place * propertySize + 14) bs → PartIs (firstText (drop from bs)) bs r
-      → PartIs (propertyIn (seen bs) place .label) bs r
-  unfolding propertySeen
+      → from ≡ halfAt (start + place * propertySize + 14) bs → PartIs (textStart bs from) (firstText (drop from bs)) bs r
+      → PartIs (labelStart bs place) (propertyIn (seen bs) place .label) bs r
+  unfolding propertySeen labelStart
   label-part {start} h f e p =
-      subst (λ s. PartIs s bs r)
+      let begin : labelStart bs place ≡ textStart bs (halfAt (propertiesStart (nodeCount bs) + place * propertySize + 14) bs) =
+      rw (lt-ltb place (propertyCount bs) h) in
+      part-as bs (ap (textStart bs) (e ∙ ap (λ n. halfAt (n + place * propertySize + 14) bs) f) ∙ sym begin)
       (ap (λ i. firstText (drop i bs)) (e ∙ sym (half-behind (start + place * propertySize) bs 14))
       ∙ ap (λ n. propertySeen bs (drop (n + place * propertySize) bs) .label) f
       ∙ sym (ap (λ x. x .label) (property-at bs place h)))

@@ -6,7 +6,7 @@ use super::record;
 ghost use lib.ListN.{drop};
 ghost use Rattle.protocol.specs.Tree.{nodeIn, propertyIn};
 ghost use Rattle.tree.specs.Seen.{firstText, seen};
-ghost use Rattle.tree.specs.Lookup.{PartIs};
+ghost use Rattle.tree.specs.Lookup.{textStart, nameStart, labelStart, PartIs};
 
 // A part of a tree's bytes: from a place to the one before `end`.
 pub struct Part {
@@ -16,7 +16,7 @@ pub struct Part {
 
 // The text that begins at a place, without the zero that ends it.
 fn text_at(tree: &[u8], from: usize) -> Part
-    ensures { λ r. ⌜ PartIs (firstText (drop from (now (tree .entry)))) (now (tree .entry)) r ⌝ }
+    ensures { λ r. ⌜ PartIs (textStart (now (tree .entry)) from) (firstText (drop from (now (tree .entry)))) (now (tree .entry)) r ⌝ }
 {
     if tree.len() < from {
         return Part { start: 0, end: 0 };
@@ -29,7 +29,7 @@ fn text_at(tree: &[u8], from: usize) -> Part
 
 // A node's name; empty where there is no such node.
 pub fn name(tree: &[u8], node: usize) -> Part
-    ensures { λ r. ⌜ PartIs (nodeIn (seen (now (tree .entry))) node .name) (now (tree .entry)) r ⌝ }
+    ensures { λ r. ⌜ PartIs (nameStart (now (tree .entry)) node) (nodeIn (seen (now (tree .entry))) node .name) (now (tree .entry)) r ⌝ }
 {
     if word::wide(bytes::byte_at(tree, 0)) <= node {
         return Part { start: 0, end: 0 };
@@ -40,7 +40,7 @@ pub fn name(tree: &[u8], node: usize) -> Part
 
 // A property's label; empty where there is no such property.
 pub fn label(tree: &[u8], place: usize) -> Part
-    ensures { λ r. ⌜ PartIs (propertyIn (seen (now (tree .entry))) place .label) (now (tree .entry)) r ⌝ }
+    ensures { λ r. ⌜ PartIs (labelStart (now (tree .entry)) place) (propertyIn (seen (now (tree .entry))) place .label) (now (tree .entry)) r ⌝ }
 {
     if word::wide(bytes::byte_at(tree, 1)) <= place {
         return Part { start: 0, end: 0 };
