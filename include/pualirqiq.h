@@ -34,8 +34,8 @@
 #include <stdint.h>
 
 /* Grows when the interface changes. 1: with pq_word and pq_is_ready. 2: pq_reading and pq_restore_cells in their place.
- * 3: pq_list. */
-#define PQ_VERSION 3
+ * 3: pq_list. 4: pq_feed passes over stray 10h. */
+#define PQ_VERSION 4
 
 /* In C, an array of at least so many elements: compilers warn of a shorter one. */
 #if defined(__STDC_VERSION__) && __STDC_VERSION__ >= 199901L && !defined(__cplusplus)
@@ -92,7 +92,9 @@ size_t pq_state_size(void);
 uint8_t pq_begin_stream(uint8_t *state, size_t state_len);
 
 /* Feeds bytes of the line, any number of them or none, to the reader for the box's address. It stops behind the byte that
- * closes or drops a frame: feed the rest again, from bytes + *taken on.
+ * closes or drops a frame: feed the rest again, from bytes + *taken on. Outside a frame, any number of stray 10h just before a
+ * 10 02 is passed over, as a line driver leaves them when it turns on; a whole string that begins so is refused with 2 by the
+ * calls that read one.
  *
  *   number                                    *taken             *len         out             state
  *   1        the state is not sound           0                  0            as it was       as it was

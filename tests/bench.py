@@ -29,6 +29,7 @@ def stream(rounds):
     for _ in range(random.randrange(1, rounds)):
         kind = random.random()
         if kind < 0.6:
+            out += b"\x10" * random.choice([0, 0, 1, 2, 5])
             out += cases.frame(random.choice([0, 0, 0, 0, 5]), random.choice(requests))
         elif kind < 0.8:
             out += bytes(random.choice([0x10, 2, 3, 0, 0xB4, 255]) for _ in range(random.randrange(12)))

@@ -72,14 +72,14 @@ def datagram(s):
     return size(s[4:]), s[4:] if size(s[4:]) == 0 else b""
 
 
-# 01, The stream. The reader is [inside, a 10h waits, content].
+# 01, The stream; 02, section 2. The reader is [inside, a 10h waits, content].
 def feed(reader, address, bs):
     for b in bs:
         inside, waits, content = reader
         if not waits and b == 0x10:
             reader[1] = True
         elif not inside:
-            reader[:] = [waits and b == 0x02, False, b""]
+            reader[:] = [waits and b == 0x02, b == 0x10, b""]
         elif waits and b == 0x03:
             reader[:] = [False, False, b""]
             return judge(address, content)
@@ -276,6 +276,8 @@ def penko():
 
 PING = frame(0, H("B400"))
 LONG_STRING = b"\x10\x02" + bytes(296) + b"\x10\x03"
+# Its data holds 10 02, and what stands behind that, up to the end of the frame, is a good content too: that of PING.
+FALSE_FRAME = frame(0, H("EE100200B400"))
 
 CASES = [
     # 01, Bench tree and its cases: the three that are not marked.
@@ -321,7 +323,6 @@ CASES = [
     ("write_datagram/8", "write_datagram_no_room", b""),
     ("write_datagram/4", "write_datagram", b""),
     ("write_datagram/5", "write_datagram", bytes(257)),
-    ("feed/255 noise 10h", "feed", 0, H("FF10") + PING),
     ("feed/0", "feed", 0, H("FF") + PING),
     ("feed/1", "feed_unsound", 0, PING),
     ("feed/8", "feed_no_room", 0, PING),
@@ -333,6 +334,20 @@ CASES = [
     ("feed/afresh", "feed", 0, H("1002FFFF") + PING),
     ("feed/in two", "feed_twice", 0, PING[:-1], H("03")),
     ("feed/in two", "feed_twice", 0, H("1002001005"), PING),
+    # 02, section 2: what opens a frame, and what does not.
+    ("stray/one", "feed", 0, b"\x10" + PING),
+    ("stray/noise and one", "feed", 0, H("FF10") + PING),
+    ("stray/a run", "feed", 0, b"\x10" * 5 + PING),
+    ("stray/cut behind the first", "feed_twice", 0, H("10"), PING),
+    ("stray/cut before 02", "feed_twice", 0, H("1010"), PING[1:]),
+    ("stray/behind a frame", "feed_twice", 0, PING, H("1010") + PING),
+    ("stray/10 10 00 02", "feed", 0, H("101000") + PING[1:]),
+    ("stray/10 10 03", "feed_twice", 0, H("101003"), PING),
+    ("stray/10 10 02 inside", "feed", 0, frame(0, H("1002"))),
+    ("stray/259th byte", "feed_twice", 0, b"\x10\x02" + bytes(258) + H("1010"), PING[1:]),
+    ("stray/the rest of a dropped frame", "feed_twice", 0, H("1002001005"), FALSE_FRAME[3:]),
+    ("stray/a whole string", "read_frame", 0, b"\x10" + PING),
+    ("stray/a whole string", "serial", 0, b"\x10" + PING),
     # 01, Requests: read and written out.
     ("read_serial/0", "read_serial", 0, PING),
     ("read_serial/0", "read_serial", 7, frame(7, H("B40501100200FFFF0001"))),

@@ -25,8 +25,8 @@ def form(*cells):
     return b"".join(word.to_bytes(4, "big") + bytes([mark]) for word, mark in cells)
 
 
-# Noise, and a frame for another box.
-OTHERS = b"\x00\x10\x03" + frame(7, bytes.fromhex("B400"))
+# Noise, a frame for another box, and stray 10h just before the next one (document 02, section 2).
+OTHERS = b"\x00\x10\x03" + frame(7, bytes.fromhex("B400")) + b"\x10\x10"
 
 # Requests and replies, as document 01 gives them for the bench tree; the read with its status byte (PDI 5.4); Average holds 0
 # until it is written, since the cells begin at 0.

@@ -45,11 +45,13 @@ tested at run time in the second one; it allocates two lists for a tree, and one
 TAIL = """
 ## How to read it
 
-- Time depends on where the linker puts a loop. In a trial, 0, 16, 32 and 48 bytes were put before the same library. Of the second
-  implementation's time a byte fed alone came to 0.96 or 0.97, a frame fed in one call to 0.80, 0.81, 0.82 and 0.99, the rows of
-  `pq_frame` to between 0.61 and 1.00 and `pq_read_frame` to between 0.63 and 0.83, the code being the same; every other row stayed
-  at 0.80 or under. In later builds a frame fed in one call came to 1.25, and `pq_read_frame` to 1.09, by the same instructions. A
-  table shows the one build it was taken from; the instructions are the steadier number.
+- Time depends on the processor and on where the linker puts a loop. In a trial on an AMD EPYC, 0, 16, 32 and 48 bytes were put
+  before the same library. Of the second implementation's time a byte fed alone came to 0.96 or 0.97, a frame fed in one call to
+  0.80, 0.81, 0.82 and 0.99, the rows of `pq_frame` to between 0.61 and 1.00 and `pq_read_frame` to between 0.63 and 0.83, the code
+  being the same; every other row stayed at 0.80 or under. In later builds, on that processor and on an Intel Xeon, a frame fed in
+  one call came to up to 1.25, `pq_read_frame` to 1.20, a row of `pq_frame` to 1.17 and the checks of the largest tree to 0.87, by
+  the same instructions. A table shows the one build and the one processor it was taken from; the instructions are the steadier
+  number.
 - `pq_read_frame` goes over a good string twice: a refusal may not touch the output, and the checksum stands last. The copy takes
   some 11 instructions for a byte; what it passes over behind a 10h goes by a branch that the processor guesses, not by a sum that
   would wait for the byte.

@@ -6,3 +6,4 @@ pub mod MarkedCases
 pub mod Requests
 pub mod Demand3
 pub mod Listing
+pub mod StrayDle

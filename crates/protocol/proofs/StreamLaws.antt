@@ -1,18 +1,68 @@
--- The stream rule: what a whole frame does to a reader, where a closed frame stands, and the second sending.
+-- The stream rule: what a whole frame does to a reader, stray 10h before one, where a closed frame stands, and the second sending.
 -- Assumes nothing.
-use Prim.Native.Nat.{ℕ, suc, _+_, _<_, _≤_}
+use Prim.Native.Nat.{ℕ, zero, suc, _+_, _<_, _≤_}
 use native.Mathlib.Omega.{arith}
 use native.Mathlib.Nat.{add-suc, suc-add, add-zero}
 use mathlib.Core.Path.{_≡_, refl, sym, ap, ap₂, subst, _∙_}
 use mathlib.Core.Bool.{Bool, true, false, cond, not, false≢true}
 use mathlib.Core.List.{List, [], _∷_, _++_, append-assoc, append-nil}
-use borrow.Author.Tests.{eqb-true, lt-ltb}
-use lib.ListN.{length, length-append}
+use borrow.Author.Tests.{eqb-true, lt-ltb, le-ltb}
+use lib.ListN.{length, length-append, length-replicate}
 use lib.Dec.{eqb, ltb}
 use Rattle.protocol.specs.Numbers.{DLE, STX, ETX, maxContent}
 use Rattle.protocol.specs.Frame.{double, wrap, frame, contentOf, judge, received, Sized}
-use Rattle.protocol.specs.Stream.{Stream, outside, inside, begin, Event, nothing, closed, droppedPair, droppedLong, on, ends, collect, step, after, HandedUp, handUp, handedUpFrom, handedUp}
+use Rattle.protocol.specs.Stream.{Stream, outside, inside, begin, Event, nothing, closed, droppedPair, droppedLong, on, ends, collect, step, strays, after, HandedUp, handUp, handedUpFrom, handedUp}
 use Rattle.protocol.proofs.FrameLaws.{double-nil, double-dle, double-lone, double-snoc, length-contentOf, judge-contentOf}
+
+-- One byte outside, with a 10h waiting or none: it hands nothing up; a 10h waits (02, section 2), and any byte but 10h and 02 leaves
+-- nothing waiting.
+outside-silent : (w : Bool) (b : ℕ) → step (outside w) b .event ≡ nothing
+unfolding step
+outside-silent false b = refl
+outside-silent true b = refl
+
+stray-waits : (w : Bool) → step (outside w) DLE ≡ on (outside true)
+unfolding step
+stray-waits false = refl
+stray-waits true = refl
+
+others-outside : (w : Bool) (b : ℕ) → eqb b DLE ≡ false → eqb b STX ≡ false → step (outside w) b ≡ on begin
+unfolding step
+others-outside false b e f = rw e
+others-outside true b e f = rw (e, f)
+
+-- One byte inside: content where there is room, and beyond it the frame is dropped with nothing waiting, also where the byte is the
+-- second of 10 10.
+collect-on : (c : List ℕ) (b : ℕ) → length c < maxContent → collect c b ≡ on (inside false (c ++ b ∷ []))
+unfolding collect
+collect-on c b h = rw (lt-ltb (length c) maxContent h)
+
+step-lone : (c : List ℕ) (b : ℕ) → eqb b DLE ≡ false → length c < maxContent
+    → step (inside false c) b ≡ on (inside false (c ++ b ∷ []))
+unfolding step
+step-lone c b e h = rw e (collect-on c b h)
+
+step-pair : (c : List ℕ) → length c < maxContent → step (inside true c) DLE ≡ on (inside false (c ++ DLE ∷ []))
+unfolding step
+step-pair c h = collect-on c DLE h
+
+collect-full : (c : List ℕ) (b : ℕ) → maxContent ≤ length c → collect c b ≡ ends droppedLong
+unfolding collect
+collect-full c b h = rw (le-ltb (length c) maxContent h)
+
+pub full-pair : (c : List ℕ) → maxContent ≤ length c → step (inside true c) DLE ≡ ends droppedLong
+unfolding step
+full-pair c h = collect-full c DLE h
+
+-- A step that brings nothing about.
+on-after : (s s′ : Stream) (b : ℕ) (bs : List ℕ) → step s b ≡ on s′ → after s (b ∷ bs) ≡ after s′ bs
+unfolding after
+on-after s s′ b bs e = ap (λ r. after (r .after) bs) e
+
+on-none-handed : (a : ℕ) (s s′ : Stream) (n b : ℕ) (bs : List ℕ) → step s b ≡ on s′
+    → handedUpFrom a s n (b ∷ bs) ≡ handedUpFrom a s′ (suc n) bs
+unfolding handedUpFrom handUp
+on-none-handed a s s′ n b bs e = ap (λ r. handUp a (suc n) (r .event) ++ handedUpFrom a (r .after) (suc n) bs) e
 
 -- Bytes joined: the state, and what is handed up.
 pub after-append : (s : Stream) (x y : List ℕ) → after s (x ++ y) ≡ after (after s x) y
@@ -31,9 +81,9 @@ handedUp-append a s n (b ∷ x) y =
     (suc-add n (length x) ∙ sym (add-suc n (length x))))
     ∙ sym (append-assoc (handUp a (suc n) (step s b .event)) _ _)
 
--- No 10h waits.
+-- Inside no 10h waits.
 abbrev steady : Stream → Bool
-steady (outside w) = not w
+steady (outside w) = true
 steady (inside w c) = not w
 
 collect-steady : (c : List ℕ) (b : ℕ) → steady (collect c b .after) ≡ true
@@ -44,18 +94,22 @@ collect-steady c b = go (ltb (length c) maxContent)
     go true = refl
     go false = refl
 
+opening-steady : (t w : Bool) → steady (cond t (inside false []) (outside w)) ≡ true
+opening-steady true w = refl
+opening-steady false w = refl
+
 -- A lone byte, or a doubled 10h, leaves a steady reader steady.
 lone-steady : (s : Stream) (b : ℕ) → eqb b DLE ≡ false → steady s ≡ true → steady (step s b .after) ≡ true
 unfolding step
-lone-steady (outside false) b e h = ap not e
-lone-steady (outside true) b e h = absurd (false≢true h)
+lone-steady (outside false) b e h = refl
+lone-steady (outside true) b e h = opening-steady (eqb b STX) (eqb b DLE)
 lone-steady (inside false c) b e h = rw e (collect-steady c b)
 lone-steady (inside true c) b e h = absurd (false≢true h)
 
 pair-steady : (s : Stream) → steady s ≡ true → steady (after s (DLE ∷ DLE ∷ [])) ≡ true
 unfolding step after
 pair-steady (outside false) h = refl
-pair-steady (outside true) h = absurd (false≢true h)
+pair-steady (outside true) h = refl
 pair-steady (inside false c) h = collect-steady c DLE
 pair-steady (inside true c) h = absurd (false≢true h)
 
@@ -80,7 +134,7 @@ open-steady (inside true c) = lone-steady (collect c DLE .after) STX refl (colle
 close-outside : (s : Stream) → steady s ≡ true → after s (DLE ∷ ETX ∷ []) ≡ begin
 unfolding step after
 close-outside (outside false) h = refl
-close-outside (outside true) h = absurd (false≢true h)
+close-outside (outside true) h = refl
 close-outside (inside false c) h = refl
 close-outside (inside true c) h = absurd (false≢true h)
 
@@ -107,29 +161,6 @@ double-snoc-dle c = double-snoc c DLE
 pub record Collected (a : ℕ) (c d : List ℕ) (n : ℕ) : Type 0 where
   pub state : after (inside false c) (double d) ≡ inside false (c ++ d)
   pub none-handed : handedUpFrom a (inside false c) n (double d) ≡ []
-
-collect-on : (c : List ℕ) (b : ℕ) → length c < maxContent → collect c b ≡ on (inside false (c ++ b ∷ []))
-unfolding collect
-collect-on c b h = rw (lt-ltb (length c) maxContent h)
-
-step-lone : (c : List ℕ) (b : ℕ) → eqb b DLE ≡ false → length c < maxContent
-    → step (inside false c) b ≡ on (inside false (c ++ b ∷ []))
-unfolding step
-step-lone c b e h = rw e (collect-on c b h)
-
-step-pair : (c : List ℕ) → length c < maxContent → step (inside true c) DLE ≡ on (inside false (c ++ DLE ∷ []))
-unfolding step
-step-pair c h = collect-on c DLE h
-
--- A step that brings nothing about.
-on-after : (s s′ : Stream) (b : ℕ) (bs : List ℕ) → step s b ≡ on s′ → after s (b ∷ bs) ≡ after s′ bs
-unfolding after
-on-after s s′ b bs e = ap (λ r. after (r .after) bs) e
-
-on-none-handed : (a : ℕ) (s s′ : Stream) (n b : ℕ) (bs : List ℕ) → step s b ≡ on s′
-    → handedUpFrom a s n (b ∷ bs) ≡ handedUpFrom a s′ (suc n) bs
-unfolding handedUpFrom handUp
-on-none-handed a s s′ n b bs e = ap (λ r. handUp a (suc n) (r .event) ++ handedUpFrom a (r .after) (suc n) bs) e
 
 collected : (a : ℕ) (d c : List ℕ) (n : ℕ) → length c + length d ≤ maxContent → Collected a c d n
 unfolding after handedUpFrom double step handUp
@@ -196,6 +227,24 @@ handedUp-wrap a n c h =
     ∙ ap₂ (λ l s. l ++ handedUpFrom a s m (DLE ∷ ETX ∷ [])) (r .none-handed) (r .state)
     ∙ ap (λ e. closedAt a c e ∷ []) end
 
+-- 02, section 2: outside, with a 10h waiting or none, stray 10h before another change nothing but the place.
+strays-after : (n : ℕ) (w : Bool) (bs : List ℕ) → after (outside w) (strays n ++ DLE ∷ bs) ≡ after begin (DLE ∷ bs)
+strays-after zero w bs =
+    on-after (outside w) (outside true) DLE bs (stray-waits w) ∙ sym (on-after begin (outside true) DLE bs (stray-waits false))
+strays-after (suc n) w bs =
+    on-after (outside w) (outside true) DLE (strays n ++ DLE ∷ bs) (stray-waits w) ∙ strays-after n true bs
+
+strays-handed : (a m n : ℕ) (w : Bool) (bs : List ℕ)
+    → handedUpFrom a (outside w) m (strays n ++ DLE ∷ bs) ≡ handedUpFrom a begin (m + n) (DLE ∷ bs)
+strays-handed a m zero w bs =
+    on-none-handed a (outside w) (outside true) m DLE bs (stray-waits w)
+    ∙ sym (on-none-handed a begin (outside true) m DLE bs (stray-waits false))
+    ∙ ap (λ k. handedUpFrom a begin k (DLE ∷ bs)) (sym (add-zero m))
+strays-handed a m (suc n) w bs =
+    on-none-handed a (outside w) (outside true) m DLE (strays n ++ DLE ∷ bs) (stray-waits w)
+    ∙ strays-handed a (suc m) n true bs
+    ∙ ap (λ k. handedUpFrom a begin k (DLE ∷ bs)) (suc-add m n ∙ sym (add-suc m n))
+
 -- The frame of data of 1 to 256 bytes, for its own address: the data is handed up.
 pub handedUp-frame : (a n : ℕ) (d : List ℕ) → Sized d
     → handedUpFrom a begin n (frame a d) ≡ record { frame = received d; end = n + length (frame a d) } ∷ []
@@ -204,19 +253,71 @@ handedUp-frame a n d h =
     handedUp-wrap a n (contentOf a d) (omega (arith, h .most, length-contentOf a d))
     ∙ ap (λ r. record { frame = r; end = n + length (frame a d) } ∷ []) (judge-contentOf a d (h .least))
 
+strays-frame : (a m n : ℕ) (w : Bool) (d : List ℕ)
+    → handedUpFrom a (outside w) m (strays n ++ frame a d) ≡ handedUpFrom a begin (m + n) (frame a d)
+unfolding frame wrap
+strays-frame a m n w d = strays-handed a m n w (STX ∷ (double (contentOf a d) ++ DLE ∷ ETX ∷ []))
+
+-- 02, section 2: after any bytes that leave the reader outside, a good frame for the address behind any number of stray 10h is
+-- handed up at its first sending.
+pub first-sending : (a n : ℕ) (w : Bool) (before d : List ℕ) → after begin before ≡ outside w → Sized d
+    → handedUp a (before ++ (strays n ++ frame a d))
+    ≡ handedUp a before ++ record { frame = received d; end = length (before ++ (strays n ++ frame a d)) } ∷ []
+first-sending a n w before d o h =
+    let sent : List ℕ = strays n ++ frame a d in
+    let end : 0 + length before + n + length (frame a d) ≡ length (before ++ sent) =
+    omega (arith, length-append before sent, length-append (strays n) (frame a d), length-replicate n DLE) in
+    handedUp-append a begin 0 before sent
+    ∙ ap (λ s. handedUp a before ++ handedUpFrom a s (0 + length before) sent) o
+    ∙ ap (λ l. handedUp a before ++ l)
+    (strays-frame a (0 + length before) n w d ∙ handedUp-frame a (0 + length before + n) d h)
+    ∙ ap (λ e. handedUp a before ++ record { frame = received d; end = e } ∷ []) end
+
+-- After such bytes a run of one or more 10h and then 02 opens a frame with no content; such a run and then any byte but 10h and 02
+-- leaves the reader outside, with nothing waiting. Nothing is handed up.
+pub record Leads (a : ℕ) (before more : List ℕ) (s : Stream) : Type 0 where
+  pub state : after begin (before ++ more) ≡ s
+  pub none-handed : handedUp a (before ++ more) ≡ handedUp a before
+
+run-last : (n : ℕ) (bs : List ℕ) → strays (suc n) ++ bs ≡ strays n ++ DLE ∷ bs
+run-last zero bs = refl
+run-last (suc n) bs = ap (λ l. DLE ∷ l) (run-last n bs)
+
+strays-lead : (a n : ℕ) (w : Bool) (before : List ℕ) (b : ℕ) (s : Stream) → after begin before ≡ outside w → step (outside true) b ≡ on s
+    → Leads a before (strays (suc n) ++ b ∷ []) s
+unfolding step after handUp handedUpFrom
+strays-lead a n w before b s o e =
+    let m : ℕ = 0 + length before in
+    let more : List ℕ = strays n ++ DLE ∷ b ∷ [] in
+    rw (run-last n (b ∷ []))
+    (record {
+      state =
+          after-append begin before more
+          ∙ ap (λ x. after x more) o
+          ∙ strays-after n w (b ∷ [])
+          ∙ on-after (outside true) s b [] e;
+      none-handed =
+          handedUp-append a begin 0 before more
+          ∙ ap (λ x. handedUp a before ++ handedUpFrom a x m more) o
+          ∙ ap (λ l. handedUp a before ++ l) (strays-handed a m n w (b ∷ []) ∙ on-none-handed a (outside true) s (suc (m + n)) b [] e)
+          ∙ append-nil (handedUp a before);
+    })
+
+pub strays-open : (a n : ℕ) (w : Bool) (before : List ℕ) → after begin before ≡ outside w
+    → Leads a before (strays (suc n) ++ STX ∷ []) (inside false [])
+unfolding step
+strays-open a n w before o = strays-lead a n w before STX (inside false []) o refl
+
+pub strays-lost : (a n : ℕ) (w : Bool) (before : List ℕ) (b : ℕ) → after begin before ≡ outside w → eqb b DLE ≡ false → eqb b STX ≡ false
+    → Leads a before (strays (suc n) ++ b ∷ []) begin
+strays-lost a n w before b o e f = strays-lead a n w before b begin o (others-outside true b e f)
+
 -- The second sending: after any bytes, a good frame for the address that is sent twice in a row is handed up by its end.
 pub second-sending : (a : ℕ) (noise d : List ℕ) → Sized d
     → handedUp a ((noise ++ frame a d) ++ frame a d)
     ≡ handedUp a (noise ++ frame a d) ++ record { frame = received d; end = length ((noise ++ frame a d) ++ frame a d) } ∷ []
 second-sending a noise d h =
-    let once : List ℕ = noise ++ frame a d in
-    let outside : after begin once ≡ begin = after-append begin noise (frame a d) ∙ after-frame (after begin noise) a d in
-    let end : 0 + length once + length (frame a d) ≡ length (once ++ frame a d) =
-    omega (arith, length-append once (frame a d)) in
-    handedUp-append a begin 0 once (frame a d)
-    ∙ ap (λ s. handedUp a once ++ handedUpFrom a s (0 + length once) (frame a d)) outside
-    ∙ ap (λ l. handedUp a once ++ l) (handedUp-frame a (0 + length once) d h)
-    ∙ ap (λ e. handedUp a once ++ record { frame = received d; end = e } ∷ []) end
+    first-sending a 0 false (noise ++ frame a d) d (after-append begin noise (frame a d) ∙ after-frame (after begin noise) a d) h
 
 -- How the bytes read so far end, by the state they lead to.
 abbrev pub Ends : Stream → List ℕ → Type 0
@@ -249,13 +350,13 @@ opening-ends : (bs front : List ℕ) (b : ℕ) → bs ≡ front ++ DLE ∷ [] �
 unfolding step
 opening-ends bs front b h = go (eqb b STX) refl
   where
-    go : (t : Bool) → eqb b STX ≡ t → Ends (cond t (inside false []) (outside false)) (bs ++ b ∷ [])
+    go : (t : Bool) → eqb b STX ≡ t → Ends (cond t (inside false []) (outside (eqb b DLE))) (bs ++ b ∷ [])
     go true e = (
       front,
       snoc bs front (DLE ∷ []) b h
           ∙ ap₂ (λ x l. front ++ (DLE ∷ x ∷ l)) (eqb-true b STX e) (sym double-nil),
     )
-    go false e = tt
+    go false e = outside-ends bs b
 
 lone-ends : (c bs front : List ℕ) (b : ℕ) → bs ≡ front ++ (DLE ∷ STX ∷ double c)
     → Ends (step (inside false c) b .after) (bs ++ b ∷ [])
@@ -334,8 +435,7 @@ collect-open c b = go (ltb (length c) maxContent)
 -- The byte that closes a frame: a 10h waited inside, the byte is 03, and the content is what was collected.
 pub closing : (s : Stream) (b : ℕ) (c : List ℕ) → step s b .event ≡ closed c → (s ≡ inside true c) × (b ≡ ETX)
 unfolding step
-closing (outside false) b c h = absurd (not-closing nothing c refl h)
-closing (outside true) b c h = absurd (not-closing nothing c refl h)
+closing (outside w) b c h = absurd (not-closing nothing c refl (sym (outside-silent w b) ∙ h))
 closing (inside false d) b c h = absurd (not-closing _ c (go (eqb b DLE)) h)
   where
     go : (t : Bool) → closes (cond t (on (inside true d)) (collect d b) .event) ≡ false

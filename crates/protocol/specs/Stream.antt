@@ -1,8 +1,8 @@
--- 01, The stream: what a reader of bytes hands up.
+-- 01, The stream, as 02, section 2, amends it: what a reader of bytes hands up.
 use Prim.Native.Nat.{ℕ, suc}
 use mathlib.Core.Bool.{Bool, true, false, cond}
 use mathlib.Core.List.{List, [], _∷_, _++_}
-use lib.ListN.{length}
+use lib.ListN.{length, replicate}
 use lib.Dec.{eqb, ltb}
 use Rattle.protocol.specs.Numbers.{badPair, tooLong, STX, ETX, DLE, maxContent}
 use Rattle.protocol.specs.Frame.{Received, refused, judge}
@@ -39,16 +39,20 @@ ends e = record { event = e; after = begin }
 unfoldable pub collect : List ℕ → ℕ → Step
 collect content b = cond (ltb (length content) maxContent) (on (inside false (content ++ b ∷ []))) (ends droppedLong)
 
--- One byte. Outside, a 10h and what follows it are a pair, and 10 02 opens a frame. Inside, a lone byte is content; of the
--- pairs 10 10 is a content byte 10h, 10 03 closes, 10 02 begins the frame anew, and every other one drops it.
+-- One byte. Outside, 10 02 opens a frame, and a 10h waits, also one behind another (02, section 2). Inside, a lone byte is
+-- content; of the pairs 10 10 is a content byte 10h, 10 03 closes, 10 02 begins the frame anew, and every other one drops it.
 unfoldable pub step : Stream → ℕ → Step
 step (outside false) b = on (outside (eqb b DLE))
-step (outside true) b = on (cond (eqb b STX) (inside false []) (outside false))
+step (outside true) b = on (cond (eqb b STX) (inside false []) (outside (eqb b DLE)))
 step (inside false content) b = cond (eqb b DLE) (on (inside true content)) (collect content b)
 step (inside true content) b =
     cond (eqb b DLE)
     (collect content DLE)
     (cond (eqb b ETX) (ends (closed content)) (cond (eqb b STX) (on (inside false [])) (ends droppedPair)))
+
+-- 02, section 2: a run of stray 10h.
+abbrev pub strays : ℕ → List ℕ
+strays n = replicate n DLE
 
 -- Where the reader stands after some bytes.
 unfoldable pub after : Stream → List ℕ → Stream

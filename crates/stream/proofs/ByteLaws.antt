@@ -55,14 +55,14 @@ collect-bytes c b all h =
     (record { content = bytes-append c (b ∷ []) all (bytes-cons b [] h bytes-none) })
     (record { content = bytes-none })
 
-opening-bytes : (t : Bool) → HoldsAfter (rule.on (cond t (inside false []) (outside false)))
-opening-bytes true = record { content = bytes-none }
-opening-bytes false = record { content = bytes-none }
+opening-bytes : (t w : Bool) → HoldsAfter (rule.on (cond t (inside false []) (outside w)))
+opening-bytes true w = record { content = bytes-none }
+opening-bytes false w = record { content = bytes-none }
 
 step-bytes : (s : Stream) (b : ℕ) → Bytes (contentIn s) → b < byteEnd → HoldsAfter (step s b)
 unfolding step
 step-bytes (outside false) b all h = record { content = bytes-none }
-step-bytes (outside true) b all h = opening-bytes (eqb b STX)
+step-bytes (outside true) b all h = opening-bytes (eqb b STX) (eqb b DLE)
 step-bytes (inside false c) b all h = if-both HoldsAfter (eqb b DLE) (record { content = all }) (collect-bytes c b all h)
 step-bytes (inside true c) b all h =
     if-both HoldsAfter (eqb b DLE) (collect-bytes c DLE all (omega arith))

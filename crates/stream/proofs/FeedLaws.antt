@@ -25,7 +25,7 @@ use Rattle.stream.specs.declared.feed.Move.{Move}
 use Rattle.stream.specs.declared.feed.Move.the-variants.{On, Keep, Closed, BadPair, TooLong}
 use Rattle.stream.specs.State.{stateLength, phaseOf, contentIn, stateForm, keep, phaseIn, lengthIn, hasForm, streamWith, standing}
 use Rattle.stream.specs.Feed.{Ran, one-more, ended, next, runFrom}
-use Rattle.stream.specs.Steps.{placeOf, place, collectOf, pairedOf, moveOf, endOf, RunIs}
+use Rattle.stream.specs.Steps.{placeOf, place, collectOf, pairedOf, outsideOf, moveOf, endOf, RunIs}
 
 -- The form, as bytes in front of the rest.
 abbrev pub head : Stream → List ℕ → List ℕ
@@ -113,26 +113,28 @@ lone-moved c b = go (eqb b DLE) refl
     go true e = on-moved (inside false c) (inside true c) b (place 3 (length c)) (rw e) refl refl (take-all (length c) c (omega arith))
     go false e = collect-moved (inside false c) b (rw e)
 
-outside-moved : (b : ℕ) → Moved (outside false) b (cond (eqb b DLE) (On (place 1 0)) (On (place 0 0)))
-unfolding step
-outside-moved b = go (eqb b DLE) refl
+waits-moved : (w : Bool) (b : ℕ) → step (outside w) b ≡ on (outside (eqb b DLE))
+    → Moved (outside w) b (cond (eqb b DLE) (On (place 1 0)) (On (place 0 0)))
+waits-moved w b h = go (eqb b DLE) refl
   where
-    go : (t : Bool) → eqb b DLE ≡ t → Moved (outside false) b (cond t (On (place 1 0)) (On (place 0 0)))
-    go true e = on-moved (outside false) (outside true) b (place 1 0) (ap (λ t. on (outside t)) e) refl refl refl
-    go false e = on-moved (outside false) (outside false) b (place 0 0) (ap (λ t. on (outside t)) e) refl refl refl
+    go : (t : Bool) → eqb b DLE ≡ t → Moved (outside w) b (cond t (On (place 1 0)) (On (place 0 0)))
+    go true e = on-moved (outside w) (outside true) b (place 1 0) (h ∙ ap (λ t. on (outside t)) e) refl refl refl
+    go false e = on-moved (outside w) (outside false) b (place 0 0) (h ∙ ap (λ t. on (outside t)) e) refl refl refl
 
-opening-moved : (b : ℕ) → Moved (outside true) b (cond (eqb b STX) (On (place 2 0)) (On (place 0 0)))
-unfolding step
-opening-moved b = go (eqb b STX) refl
+outside-moved : (w : Bool) (b : ℕ) → Moved (outside w) b (outsideOf (phaseOf (outside w)) b)
+unfolding step outsideOf
+outside-moved false b = waits-moved false b refl
+outside-moved true b = go (eqb b STX) refl
   where
-    go : (t : Bool) → eqb b STX ≡ t → Moved (outside true) b (cond t (On (place 2 0)) (On (place 0 0)))
+    go : (t : Bool) → eqb b STX ≡ t
+        → Moved (outside true) b (cond t (On (place 2 0)) (cond (eqb b DLE) (On (place 1 0)) (On (place 0 0))))
     go true e = on-moved (outside true) (inside false []) b (place 2 0) (rw e) refl refl refl
-    go false e = on-moved (outside true) (outside false) b (place 0 0) (rw e) refl refl refl
+    go false e = waits-moved true b (rw e)
 
 moved : (s : Stream) (b : ℕ) → Moved s b (moveOf (phaseOf s) (length (contentIn s)) b)
 unfolding moveOf
-moved (outside false) b = outside-moved b
-moved (outside true) b = opening-moved b
+moved (outside false) b = outside-moved false b
+moved (outside true) b = outside-moved true b
 moved (inside false c) b = lone-moved c b
 moved (inside true c) b = paired-moved c b
 

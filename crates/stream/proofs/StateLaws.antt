@@ -113,14 +113,14 @@ on-few s h = record { few = h }
 ends-few : (e : Event) → Few (ends e)
 ends-few e = record { few = omega arith }
 
-opening-few : (t : Bool) → Few (on (cond t (inside false []) (outside false)))
-opening-few true = record { few = omega arith }
-opening-few false = record { few = omega arith }
+opening-few : (t w : Bool) → Few (on (cond t (inside false []) (outside w)))
+opening-few true w = record { few = omega arith }
+opening-few false w = record { few = omega arith }
 
 pub step-few : (s : Stream) (b : ℕ) → length (contentIn s) ≤ maxContent → Few (step s b)
 unfolding step
 step-few (outside false) b h = on-few (outside (eqb b DLE)) (omega arith)
-step-few (outside true) b h = opening-few (eqb b STX)
+step-few (outside true) b h = opening-few (eqb b STX) (eqb b DLE)
 step-few (inside false c) b h = if-both Few (eqb b DLE) (on-few (inside true c) h) (collect-few c b)
 step-few (inside true c) b h =
     if-both Few (eqb b DLE) (collect-few c DLE)

@@ -1,7 +1,7 @@
 -- No public promise is stated by these definitions: they follow the code step by step.
 use Prim.Native.Nat.{ℕ, _+_, _≤_}
 use mathlib.Core.Path.{_≡_}
-use mathlib.Core.Bool.{cond}
+use mathlib.Core.Bool.{cond, _&&_}
 use mathlib.Core.List.{List}
 use lib.ListN.{length, take, drop}
 use lib.Dec.{eqb, ltb}
@@ -34,15 +34,17 @@ unfoldable pub pairedOf : ℕ → ℕ → Move
 pairedOf len b =
     cond (eqb b DLE) (collectOf len) (cond (eqb b ETX) Closed (cond (eqb b STX) (On (place 2 0)) BadPair))
 
+unfoldable pub outsideOf : ℕ → ℕ → Move
+outsideOf phase b =
+    cond (eqb phase 1 && eqb b STX) (On (place 2 0)) (cond (eqb b DLE) (On (place 1 0)) (On (place 0 0)))
+
 unfoldable pub moveOf : ℕ → ℕ → ℕ → Move
 moveOf phase len b =
     cond (eqb phase 3)
     (pairedOf len b)
     (cond (eqb phase 2)
     (cond (eqb b DLE) (On (place 3 len)) (collectOf len))
-    (cond (eqb phase 1)
-    (cond (eqb b STX) (On (place 2 0)) (On (place 0 0)))
-    (cond (eqb b DLE) (On (place 1 0)) (On (place 0 0)))))
+    (outsideOf phase b))
 
 -- What `run_bytes` returns and leaves: how the call ended, and where the reader stands then, whose content lies in the state
 -- already; only the first three bytes of the state are still to be written.

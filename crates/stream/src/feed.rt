@@ -16,7 +16,7 @@ ghost use mathlib.Core.Path.{_≡_};
 ghost use lib.ListN.{length};
 ghost use Rattle.stream.specs.State.{standing};
 ghost use Rattle.stream.specs.Feed.{runFrom, fed, Feeds};
-ghost use Rattle.stream.specs.Steps.{placeOf, moveOf, collectOf, pairedOf, RunIs, endedAt};
+ghost use Rattle.stream.specs.Steps.{placeOf, moveOf, collectOf, pairedOf, outsideOf, RunIs, endedAt};
 
 // What one byte brings about: the reader goes on, or keeps the byte as content and goes on; or a frame is closed or dropped.
 pub(crate) enum Move {
@@ -56,6 +56,19 @@ fn paired(len: usize, b: u8) -> Move
     Move::BadPair
 }
 
+// A byte outside a frame: 10 02 opens one, and a 10h waits, also one behind another.
+fn outside(phase: u8, b: u8) -> Move
+    ensures { λ r. ⌜ r ≡ outsideOf phase b ⌝ }
+{
+    if phase == 1 && b == STX {
+        return Move::On(Place { phase: 2, len: 0 });
+    }
+    if b == DLE {
+        return Move::On(Place { phase: 1, len: 0 });
+    }
+    Move::On(Place { phase: 0, len: 0 })
+}
+
 // One byte, from where the reader stands.
 fn move_on(place: Place, b: u8) -> Move
     ensures { λ r. ⌜ r ≡ moveOf (place .phase) (place .len) b ⌝ }
@@ -71,16 +84,7 @@ fn move_on(place: Place, b: u8) -> Move
         }
         return collect(len);
     }
-    if phase == 1 {
-        if b == STX {
-            return Move::On(Place { phase: 2, len: 0 });
-        }
-        return Move::On(Place { phase: 0, len: 0 });
-    }
-    if b == DLE {
-        return Move::On(Place { phase: 1, len: 0 });
-    }
-    Move::On(Place { phase: 0, len: 0 })
+    outside(phase, b)
 }
 
 // How a call ended: with no frame, with one closed that has so many content bytes, or with one dropped.
@@ -123,10 +127,10 @@ fn run_bytes(start: Place, bytes: &[u8], state: &mut [u8]) -> Run
             Move::On(next) => {
                 place = next;
             }
-            Move::Keep(next) => {
+            Move::Keep(kept) => {
                 let at = place.len + 3;
                 state[at] = b;
-                place = next;
+                place = kept;
             }
             Move::Closed => return ended(End::ClosedWith(place.len), i),
             Move::BadPair => return ended(End::Paired, i),

@@ -1,4 +1,4 @@
-//! The stream reader ("The stream"), over plain state and over lent bytes.
+//! The stream reader ("The stream", as section 2 of document 02 amends it), over plain state and over lent bytes.
 use crate::frame::{judge, DLE, ETX, STX};
 use crate::*;
 
@@ -28,11 +28,18 @@ impl Place {
         let pair = std::mem::replace(&mut self.waiting, false);
         match (self.inside, pair, byte) {
             (_, true, STX) => self.open(),
+            (false, true, DLE) => self.wait(),
             (false, _, _) => None,
             (true, true, ETX) => Some(Ended::Closed(std::mem::take(self).content)),
             (true, true, DLE) | (true, false, _) => self.take(byte),
             (true, true, _) => self.drop(BAD_PAIR),
         }
+    }
+
+    /// Outside, the second of 10 10 may still begin 10 02.
+    fn wait(&mut self) -> Option<Ended> {
+        self.waiting = true;
+        None
     }
 
     fn open(&mut self) -> Option<Ended> {
@@ -152,10 +159,9 @@ struct Reader<'a> {
 impl Reader<'_> {
     fn step(&mut self, byte: u8) -> Step {
         match (self.phase, byte) {
-            (OUTSIDE, DLE) => self.phase = OUTSIDE_WAITING,
-            (OUTSIDE, _) => {}
+            (OUTSIDE | OUTSIDE_WAITING, DLE) => self.phase = OUTSIDE_WAITING,
             (OUTSIDE_WAITING | INSIDE_WAITING, STX) => self.open(),
-            (OUTSIDE_WAITING, _) => self.phase = OUTSIDE,
+            (OUTSIDE | OUTSIDE_WAITING, _) => self.phase = OUTSIDE,
             (INSIDE, DLE) => self.phase = INSIDE_WAITING,
             (INSIDE_WAITING, ETX) => return Step::Close,
             (INSIDE, _) | (INSIDE_WAITING, DLE) => return self.take(byte),

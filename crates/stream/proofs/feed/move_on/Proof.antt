@@ -1,70 +1,62 @@
 -- `stream::feed::move_on` meets its contract. Assumes nothing.
-use mathlib.Core.Path.{_∙_}
+use Prim.Native.Nat.{ℕ}
+use mathlib.Core.Path.{_≡_, _∙_}
 use borrow.Author.Tests.{eq-eqb, ne-eqb}
 use borrow.Author.Needs.{needs}
-use Rattle.stream.specs.Steps.{moveOf}
+use Rattle.protocol.specs.Numbers.{DLE}
+use Rattle.stream.specs.declared.feed.Move.the-variants.{On}
+use Rattle.stream.specs.Steps.{place, collectOf, pairedOf, outsideOf, moveOf}
 use Rattle.stream.proofs.feed.move_on.Statement.{statement}
 use Rattle.stream.proofs.feed.move_on.Tie as tie
+
+-- By the phase, and inside by the byte.
+module _ (phase len b : ℕ) where
+  is-paired : phase ≡ 3 → pairedOf len b ≡ moveOf phase len b
+  unfolding moveOf
+  is-paired e = rw (eq-eqb phase 3 e)
+
+  is-dle : phase ≡ 2 → b ≡ DLE → On (place 3 len) ≡ moveOf phase len b
+  unfolding moveOf
+  is-dle e f = rw (e, eq-eqb b DLE f)
+
+  is-content : phase ≡ 2 → (b ≡ DLE → ⊥) → collectOf len ≡ moveOf phase len b
+  unfolding moveOf
+  is-content e f = rw (e, ne-eqb b DLE f)
+
+  is-outside : (phase ≡ 3 → ⊥) → (phase ≡ 2 → ⊥) → outsideOf phase b ≡ moveOf phase len b
+  unfolding moveOf
+  is-outside e f = rw (ne-eqb phase 3 e, ne-eqb phase 2 f)
 
 paired-requires : tie.Need-paired-requires
 paired-requires c κs = search needs
 
 returns : tie.Need-returns
-unfolding moveOf
-returns c = c .paired .ensures ∙ simp (eq-eqb _ _ (c .before .if1 .taken))
+returns c =
+    let args = c .before .before .args in
+    c .paired .ensures ∙ is-paired (args .place .phase) (args .place .len) (args .b) (c .before .if1 .taken)
 
 returns-2 : tie.Need-returns-2
-unfolding moveOf
-returns-2 c = simp (ne-eqb _ _ (c .before .before .if1 .left), eq-eqb _ _ (c .before .if2 .taken), eq-eqb _ _ (c .if3 .taken))
+returns-2 c =
+    let args = c .before .before .before .args in
+    is-dle (args .place .phase) (args .place .len) (args .b) (c .before .if2 .taken) (c .if3 .taken)
 
 collect-requires : tie.Need-collect-requires
 collect-requires c κs = search needs
 
 returns-3 : tie.Need-returns-3
-unfolding moveOf
 returns-3 c =
+    let args = c .before .before .before .before .args in
     c .collect .ensures
-    ∙ simp (ne-eqb _ _ (c .before .before .before .if1 .left), eq-eqb _ _ (c .before .before .if2 .taken), ne-eqb _ _ (c .before .if3 .left))
+    ∙ is-content (args .place .phase) (args .place .len) (args .b) (c .before .before .if2 .taken) (c .before .if3 .left)
+
+outside-requires : tie.Need-outside-requires
+outside-requires c κs = search needs
 
 returns-4 : tie.Need-returns-4
-unfolding moveOf
 returns-4 c =
-    simp (
-      ne-eqb _ _ (c .before .before .before .if1 .left),
-      ne-eqb _ _ (c .before .before .if2 .left),
-      eq-eqb _ _ (c .before .if4 .taken),
-      eq-eqb _ _ (c .if5 .taken),
-    )
-
-returns-5 : tie.Need-returns-5
-unfolding moveOf
-returns-5 c =
-    simp (
-      ne-eqb _ _ (c .before .before .before .if1 .left),
-      ne-eqb _ _ (c .before .before .if2 .left),
-      eq-eqb _ _ (c .before .if4 .taken),
-      ne-eqb _ _ (c .if5 .left),
-    )
-
-returns-6 : tie.Need-returns-6
-unfolding moveOf
-returns-6 c =
-    simp (
-      ne-eqb _ _ (c .before .before .before .if1 .left),
-      ne-eqb _ _ (c .before .before .if2 .left),
-      ne-eqb _ _ (c .before .if4 .left),
-      eq-eqb _ _ (c .if6 .taken),
-    )
-
-returns-7 : tie.Need-returns-7
-unfolding moveOf
-returns-7 c =
-    simp (
-      ne-eqb _ _ (c .before .before .before .if1 .left),
-      ne-eqb _ _ (c .before .before .if2 .left),
-      ne-eqb _ _ (c .before .if4 .left),
-      ne-eqb _ _ (c .if6 .left),
-    )
+    let args = c .before .before .before .args in
+    c .outside .ensures
+    ∙ is-outside (args .place .phase) (args .place .len) (args .b) (c .before .before .if1 .left) (c .before .if2 .left)
 
 pub move-on-spec : {M : Type 1} → statement M
 move-on-spec =
@@ -75,7 +67,5 @@ move-on-spec =
     returns-2
     collect-requires
     returns-3
-    returns-4
-    returns-5
-    returns-6
-    returns-7)
+    outside-requires
+    returns-4)

@@ -59,8 +59,8 @@ loop-again c =
     goes-on (start .args .state .now) (start .args .bytes .now) (in-loop .before .loop .inv) (in-loop .loop-test .taken)
     (sym (told .next .given .1) ∙ m .move-on .ensures)
 
-enum-known-next-2 : tie.Need-enum-known-next-2 Inv-loop μ-loop
-enum-known-next-2 c = search needs
+enum-known-kept : tie.Need-enum-known-kept Inv-loop μ-loop
+enum-known-kept c = search needs
 
 add-at : tie.Need-add-at Inv-loop μ-loop
 add-at c = omega (arith, c .before .before .before .before .before .before .before .loop .inv .placed .most)
@@ -72,7 +72,7 @@ slice-write-state c =
     let in-loop = m .before .before in
     let start = in-loop .before .before .before .before in
     fits (start .args .state .now) (start .args .bytes .now) (in-loop .before .loop .inv) (in-loop .loop-test .taken)
-    (sym (told .next2 .given .1) ∙ m .move-on .ensures)
+    (sym (told .kept .given .1) ∙ m .move-on .ensures)
 
 loop-less-2 : tie.Need-loop-less-2 Inv-loop μ-loop
 loop-less-2 c = omega arith
@@ -84,7 +84,7 @@ loop-again-2 c =
     let in-loop = m .before .before in
     let start = in-loop .before .before .before .before in
     keeps (start .args .state .now) (start .args .bytes .now) (in-loop .before .loop .inv) (in-loop .loop-test .taken)
-    (sym (told .next2 .given .1) ∙ m .move-on .ensures)
+    (sym (told .kept .given .1) ∙ m .move-on .ensures)
 
 enum-told : tie.Need-enum-told Inv-loop μ-loop
 enum-told c = search needs
@@ -164,7 +164,7 @@ run-bytes-spec =
     enum-known-next
     loop-less
     loop-again
-    enum-known-next-2
+    enum-known-kept
     add-at
     slice-write-state
     loop-less-2

@@ -1,5 +1,8 @@
-//! The cases of document 01 and of its readings, each with the bytes the paper gives, and the bench tree's listing (document 02).
+//! The cases of document 01 and of its readings, each with the bytes the paper gives; of document 02, the bench tree's listing and
+//! stray 10h.
 use crate::input::{Call, Input};
+use crate::random::Random;
+use crate::strays::at_every_cut;
 use crate::tally::Tally;
 
 fn bytes(hex: &str) -> Vec<u8> {
@@ -37,7 +40,7 @@ const SERVED: [(&str, u8, &str); 17] = [
 const FRAMED: [(u8, &str, &str); 2] = [(0x3B, "B4 00", "10 02 3B B4 00 10 10 10 03"), (0x10, "B4 00", "10 02 10 10 B4 00 3B 10 03")];
 
 /// Serial strings for address 0 and the number that reading them gives.
-const STRINGS: [(&str, u8); 8] = [
+const STRINGS: [(&str, u8); 9] = [
     ("10 02 10 03", 4),
     ("10 02 00 10 10 03", 3),
     ("", 2),
@@ -46,6 +49,19 @@ const STRINGS: [(&str, u8); 8] = [
     ("10 02 10", 3),
     ("10 02 00 B4 00 4B 10 03", 0),
     ("10 02 00 B4 00 4B 10 03 10 03", 3),
+    ("10 10 02 00 B4 00 4B 10 03", 2),
+];
+
+/// Bytes of a stream for address 0, and what is handed up: numbers, with 0 the data. A `*` stands for 258 bytes of content.
+const STREAMS: [(&str, &[(u8, &str)]); 8] = [
+    ("10 10 02 00 B4 00 4B 10 03", &[(0, "B4 00")]),
+    ("10 10 10 10 10 02 00 B4 00 4B 10 03 10 10", &[(0, "B4 00")]),
+    ("10 10 00 02 00 B4 00 4B 10 03", &[]),
+    ("10 10 03 10 03 10 10 02 00 B4 00 4B 10 03", &[(0, "B4 00")]),
+    ("10 02 00 10 10 02 ED 10 03", &[(0, "10 02")]),
+    ("10 02 * 10 10 02 00 B4 00 4B 10 03", &[(5, "")]),
+    ("10 02 * 00 10 10 02 00 B4 00 4B 10 03", &[(5, ""), (0, "B4 00")]),
+    ("10 02 00 10 05 EE 10 10 02 00 B4 00 4B 10 03", &[(3, ""), (0, "B4 00")]),
 ];
 
 /// The readings of the bench tree's properties where each case starts, and after a restart: the number, and the word with 0.
@@ -73,7 +89,12 @@ const LISTING: &[u8] = b"\
     path=1.2\nindex=2\nlabel=Rate\ntype=2\n\
     path=1.2\nindex=3\nlabel=Restart\ntype=1\n";
 
-pub fn run(tally: &mut Tally) {
+pub fn run(random: &Random, tally: &mut Tally) {
+    for (stream, handed) in STREAMS {
+        let stream = bytes(&stream.replace('*', &"00".repeat(258)));
+        let handed: Vec<(u8, Vec<u8>)> = handed.iter().map(|(number, data)| (*number, bytes(data))).collect();
+        at_every_cut(random, tally, &stream, 0, &handed);
+    }
     tally.compare(&Input::of(Call::StateSize));
     list_all(tally);
     serve_all(tally);

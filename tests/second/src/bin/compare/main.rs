@@ -11,6 +11,7 @@ mod library;
 mod listings;
 mod random;
 mod requests;
+mod strays;
 mod streams;
 mod sweep;
 mod tally;
@@ -29,7 +30,7 @@ fn main() {
     let random = Random::new(seed);
     let mut tally = Tally::new();
     println!("seed {seed}, times {times}");
-    cases::run(&mut tally);
+    cases::run(&random, &mut tally);
     if times >= 1.0 {
         sweep::run(&mut tally);
         largest::run(&random, &mut tally);
@@ -39,6 +40,7 @@ fn main() {
         trees::run(&random, &mut tally, round);
         requests::run(&random, &mut tally);
         streams::run(&random, &mut tally);
+        strays::run(&random, &mut tally);
     }
     std::process::exit(if tally.report() { 0 } else { 1 });
 }

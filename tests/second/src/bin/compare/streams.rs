@@ -27,10 +27,10 @@ fn begin(random: &Random, tally: &mut Tally) {
 }
 
 /// What a list of deliveries handed up: each number with its data, and the state left.
-type Handed = (Vec<(u8, Vec<u8>)>, Vec<u8>);
+pub type Handed = (Vec<(u8, Vec<u8>)>, Vec<u8>);
 
 /// Delivers bytes to the end, cut at random or each time all that is left.
-fn deliver(random: &Random, tally: &mut Tally, bytes: &[u8], address: u8, state: Vec<u8>, cut: bool) -> Handed {
+pub fn deliver(random: &Random, tally: &mut Tally, bytes: &[u8], address: u8, state: Vec<u8>, cut: bool) -> Handed {
     let mut handed = (Vec::new(), state);
     let mut at = 0;
     while at < bytes.len() {
@@ -120,7 +120,8 @@ fn draw(random: &Random, address: u8) -> Vec<u8> {
 fn draw_piece(random: &Random, address: u8) -> Vec<u8> {
     let len = random.pick(&[1, 2, 5, 30, 100, 256]);
     let data = random.telling_bytes(len);
-    match random.below(8) {
+    match random.below(9) {
+        8 => vec![0x10; random.between(1, 4)],
         0 => random.telling_bytes(len),
         1 => long_piece(random, address),
         2 => broken_piece(random, address, &data),

@@ -165,10 +165,11 @@ fn steps(tally: &mut Tally) {
     }
 }
 
-/// All strings of up to seven bytes that frames turn on, behind 10 02, read whole and as a stream.
+/// All strings of up to seven bytes that frames turn on, behind 10 02, read whole and as a stream; and without it as a stream, a 10h
+/// waiting or none.
 fn short_strings(tally: &mut Tally) {
     const LETTERS: [u8; 4] = [0x10, 0x02, 0x03, 0x4B];
-    let state = [0; STATE_SIZE];
+    let mut state = [0; STATE_SIZE];
     for len in 0..=7_u32 {
         for mut number in 0..4_usize.pow(len) {
             let mut bytes = vec![0x10, 0x02];
@@ -178,7 +179,10 @@ fn short_strings(tally: &mut Tally) {
             }
             tally.compare(&Input { bytes: &bytes, address: 0x10, ..Input::of(Call::ReadSerial) });
             tally.compare(&whole(&bytes));
-            tally.compare(&Input { state: &state, bytes: &bytes, address: 0x10, room: 256, ..Input::of(Call::Feed) });
+            for (phase, from) in [(0, 0), (0, 2), (1, 2)] {
+                state[0] = phase;
+                tally.compare(&Input { state: &state, bytes: &bytes[from..], address: 0x10, room: 256, ..Input::of(Call::Feed) });
+            }
         }
     }
 }
