@@ -14,8 +14,8 @@ use Rattle.protocol.specs.Frame.{double, wrap, frame, contentOf, judge, 
 use Rattle.protocol.specs.Stream.{Stream, outside, inside, begin, Event, nothing, closed, droppedPair, droppedLong, on, ends, collect, step, strays, after, HandedUp, handUp, handedUpFrom, handedUp}
 use Rattle.protocol.proofs.FrameLaws.{double-nil, double-dle, double-lone, double-snoc, length-contentOf, judge-contentOf}
 
--- One byte outside, with a 10h waiting or none: it hands nothing up; a 10h waits (02, section 2), and any byte but 10h and 02 leaves
--- nothing waiting.
+-- One byte outside: it hands nothing up; a 10h waits, also behind another (02, section 2); behind a 10h that waits, any byte but 10h
+-- and 02 leaves nothing waiting.
 outside-silent : (w : Bool) (b : ℕ) → step (outside w) b .event ≡ nothing
 unfolding step
 outside-silent false b = refl
@@ -26,13 +26,12 @@ unfolding step
 stray-waits false = refl
 stray-waits true = refl
 
-others-outside : (w : Bool) (b : ℕ) → eqb b DLE ≡ false → eqb b STX ≡ false → step (outside w) b ≡ on begin
+others-outside : (b : ℕ) → eqb b DLE ≡ false → eqb b STX ≡ false → step (outside true) b ≡ on begin
 unfolding step
-others-outside false b e f = rw e
-others-outside true b e f = rw (e, f)
+others-outside b e f = rw (e, f)
 
 -- One byte inside: content where there is room, and beyond it the frame is dropped with nothing waiting, also where the byte is the
--- second of 10 10.
+-- second of 10 10: a 02 behind it opens nothing.
 collect-on : (c : List ℕ) (b : ℕ) → length c < maxContent → collect c b ≡ on (inside false (c ++ b ∷ []))
 unfolding collect
 collect-on c b h = rw (lt-ltb (length c) maxContent h)
@@ -53,6 +52,10 @@ collect-full c b h = rw (le-ltb (length c) maxContent h)
 pub full-pair : (c : List ℕ) → maxContent ≤ length c → step (inside true c) DLE ≡ ends droppedLong
 unfolding step
 full-pair c h = collect-full c DLE h
+
+pub full-opens-none : (c : List ℕ) → maxContent ≤ length c → after (inside false c) (DLE ∷ DLE ∷ STX ∷ []) ≡ begin
+unfolding step after
+full-opens-none c h = ap (λ r. after (r .after) (STX ∷ [])) (full-pair c h)
 
 -- A step that brings nothing about.
 on-after : (s s′ : Stream) (b : ℕ) (bs : List ℕ) → step s b ≡ on s′ → after s (b ∷ bs) ≡ after s′ bs
@@ -310,7 +313,7 @@ strays-open a n w before o = strays-lead a n w before STX (inside false []) o re
 
 pub strays-lost : (a n : ℕ) (w : Bool) (before : List ℕ) (b : ℕ) → after begin before ≡ outside w → eqb b DLE ≡ false → eqb b STX ≡ false
     → Leads a before (strays (suc n) ++ b ∷ []) begin
-strays-lost a n w before b o e f = strays-lead a n w before b begin o (others-outside true b e f)
+strays-lost a n w before b o e f = strays-lead a n w before b begin o (others-outside b e f)
 
 -- The second sending: after any bytes, a good frame for the address that is sent twice in a row is handed up by its end.
 pub second-sending : (a : ℕ) (noise d : List ℕ) → Sized d
