@@ -1,6 +1,7 @@
 /* A firmware to start from: one box at one address, two probes, its serial line on standard input and output.
  *
- * Usage: main [FILE]. The file stands for the EEPROM: cells that were saved before the restart.
+ * Usage: main [FILE]. The file stands for the EEPROM: cells that were saved before the restart. Where there are none, or they are
+ * spoilt, the box begins with its factory sheet.
  *
  * One context, the main loop, calls the library. The UART's interrupt puts each byte into a queue and calls nothing. Nothing here
  * looks into a lent form. */
@@ -31,6 +32,9 @@ static const uint8_t tree[] = {
 
 /* The places of the properties in the tree's list. */
 enum { PROBE_1, PROBE_2, AVERAGE, RATE, RESTART, PROPERTIES };
+
+/* The settings that a box leaves the works with. */
+static const uint8_t factory[] = "Average=4\nRate=0\n";
 
 static uint8_t cells[PROPERTIES * PQ_CELL_SIZE];
 static uint8_t state[PQ_STATE_SIZE];
@@ -118,12 +122,12 @@ struct probe {
 
 static struct probe probes[] = {{PROBE_1, 2100, 1, 0, 0}, {PROBE_2, 8500, 0, 0, 0}};
 
-/* How many samples make a reading: the setting Average, and 1 while it holds 0, as cells that begin do. */
+/* How many samples make a reading: the setting Average. */
 static uint32_t average(void)
 {
     uint32_t word;
 
-    if (pq_reading(tree, sizeof tree, cells, sizeof cells, AVERAGE, &word) != PQ_DONE || word == 0)
+    if (pq_reading(tree, sizeof tree, cells, sizeof cells, AVERAGE, &word) != PQ_DONE)
         return 1;
     return word;
 }
@@ -163,15 +167,31 @@ static int load_cells(const char *name)
     return len == sizeof cells && pq_restore_cells(tree, sizeof tree, cells, sizeof cells) == PQ_DONE;
 }
 
-int main(int argc, char **argv)
+/* Cells that begin, with the factory's settings. The status to end with, not 0, where the build is at fault. */
+static int begin_cells(void)
 {
-    int c;
+    uint8_t number;
 
-    pq_begin_stream(state, sizeof state);
-    if (!load_cells(argc > 1 ? argv[1] : NULL) && pq_begin_cells(tree, sizeof tree, cells, sizeof cells) != PQ_DONE) {
+    if (pq_begin_cells(tree, sizeof tree, cells, sizeof cells) != PQ_DONE) {
         fprintf(stderr, "the tree is not sound, or the cells are not its\n");
         return 1;
     }
+    /* without the zero that ends a string */
+    number = pq_read_sheet(tree, sizeof tree, cells, sizeof cells, factory, sizeof factory - 1);
+    if (number != PQ_DONE) {
+        fprintf(stderr, "factory sheet: %u\n", (unsigned)number);
+        return 2;
+    }
+    return 0;
+}
+
+int main(int argc, char **argv)
+{
+    int c, status = load_cells(argc > 1 ? argv[1] : NULL) ? 0 : begin_cells();
+
+    if (status != 0)
+        return status;
+    pq_begin_stream(state, sizeof state);
     /* The line is the clock here: the converter has a sample of each probe ready with every byte. */
     while ((c = getchar()) != EOF) {
         on_byte((uint8_t)c);

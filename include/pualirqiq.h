@@ -3,8 +3,8 @@
  *
  * tree    read only, may lie in flash; its form is in docs/FORMATS.md. Every call that gets a tree checks it.
  * cells   one cell of PQ_CELL_SIZE bytes for each property, in the order of the tree. pq_begin_cells makes them; saved ones go
- *         through pq_restore_cells at start. From then on only pq_post and accepted writes change them, and pq_reading is the
- *         way to a word.
+ *         through pq_restore_cells at start. From then on only pq_post, pq_read_sheet and accepted writes change them, and
+ *         pq_reading is the way to a word.
  * state   PQ_STATE_SIZE bytes for each stream. pq_begin_stream makes it, and only pq_feed changes it.
  * place   a property is named by its place in the tree's list of properties, from 0 on.
  *
@@ -24,7 +24,7 @@
  * - Refusals. Every number but 0 and 255 is one. It leaves cells, state and outputs as they were; lengths, offsets and counts
  *   that are handed back are 0, and the action is PQ_NO_ACTION; what is read out of something (a word, the fields of a request)
  *   is left as it was. Three exceptions: the serving calls write a reply with 9 to 13, pq_feed takes the bytes of a frame that it
- *   refuses, and pq_list tells with 8 how much room it needs.
+ *   refuses, and pq_list and pq_write_sheet tell with 8 how much room they need.
  * - Numbers. Those that a call may return stand with it, in the order in which they are tested.
  */
 #ifndef PUALIRQIQ_H
@@ -34,8 +34,8 @@
 #include <stdint.h>
 
 /* Grows when the interface changes. 1: with pq_word and pq_is_ready. 2: pq_reading and pq_restore_cells in their place.
- * 3: pq_list. 4: pq_feed passes over stray 10h. */
-#define PQ_VERSION 4
+ * 3: pq_list. 4: pq_feed passes over stray 10h. 5: pq_write_sheet and pq_read_sheet. */
+#define PQ_VERSION 5
 
 /* In C, an array of at least so many elements: compilers warn of a shorter one. */
 #if defined(__STDC_VERSION__) && __STDC_VERSION__ >= 199901L && !defined(__cplusplus)
@@ -56,10 +56,11 @@ enum {
     PQ_ROOM_DATA = 256,   /* the least room of an output for data */
     PQ_ROOM_UDP = 260,    /* .. for a datagram */
     PQ_ROOM_SERIAL = 520, /* .. for a serial string */
-    PQ_ROOM_LIST = 17664  /* room for every listing: none is longer */
+    PQ_ROOM_LIST = 17664, /* room for every listing: none is longer */
+    PQ_ROOM_SHEET = 4608  /* room for every sheet: none is longer */
 };
 
-/* Numbers returned (document 01). */
+/* Numbers returned (document 01; 17 and 18: document 02, section 3). */
 enum {
     PQ_DONE = 0,
     PQ_UNSOUND = 1,          /* tree, cells or state have no sound form, or do not fit each other */
@@ -69,13 +70,16 @@ enum {
     PQ_TOO_LONG = 5,         /* more than 256 bytes of data */
     PQ_BAD_CHECKSUM = 6,
     PQ_OTHER_ADDRESS = 7,
-    PQ_NO_ROOM = 8,          /* the output is shorter than its least room, whatever would be put there; pq_list: than the listing */
+    PQ_NO_ROOM = 8,          /* the output is shorter than its least room, whatever would be put there; pq_list and pq_write_sheet:
+                                than the listing or sheet */
     PQ_DISABLED = 9,         /* host functions are off */
     PQ_UNKNOWN_COMMAND = 10, /* not B4, or an op above 5 */
     PQ_BAD_PARAMETER = 11,   /* not what the op asks for; no such node or property */
     PQ_NO_READING = 12,      /* no read attribute, or live and not ready */
     PQ_NOT_SAVED = 13,       /* a write without write attribute, or out of range */
     PQ_NOT_LIVE = 14,        /* a posting to a property that does not exist or is not live */
+    PQ_BAD_SHEET = 17,       /* no sheet of this tree, or labels of settings that cannot be written */
+    PQ_NOT_IN_RANGE = 18,    /* a number on a sheet, or a word to be written there, is out of range or of 32 bits */
     PQ_NO_FRAME = 255        /* pq_feed: all bytes were taken and no frame ended; no refusal */
 };
 
@@ -157,6 +161,37 @@ uint8_t pq_post(const uint8_t *tree, size_t tree_len, uint8_t *cells, size_t cel
 uint8_t pq_reading(const uint8_t *tree, size_t tree_len, const uint8_t *cells, size_t cells_len, size_t place,
     uint32_t *word);
 
+/* ---- Settings on a sheet ----
+ * A sheet has a line for each setting, a property with read and write, in the order of the tree's list: its label, "=", its number
+ * in decimal, 0Ah. A number has no leading zero; where the range is signed (type 1, format bit 15) one below zero has a minus
+ * before it. "Average=4" and "Rate=0" are the lines of the bench tree. A tree without settings has the empty sheet. Actions and
+ * live words are on none.
+ *
+ * A line has at most 13 bytes beside its label (12 where the range is not signed), so a sheet has at most 36 for each setting, and
+ * none has more than PQ_ROOM_SHEET. */
+
+/* The sheet of the settings that the cells hold.
+ *
+ *   number                                                *len                     out
+ *   1        as pq_check                                  0                        as it was
+ *   17       a setting's label has a "=" in it, or is     0                        as it was
+ *            that of another setting too
+ *   18       a setting holds a word out of its range      0                        as it was
+ *   8        out_len is shorter than the sheet            the sheet's length       as it was
+ *   0                                                     the sheet's length       the sheet, with no zero behind it
+ *
+ * With PQ_ROOM_SHEET there is always enough room, and nothing is counted first. 18 is met after pq_begin_cells where 0 is out of a
+ * range: read a sheet of factory settings first, as example/main.c does. */
+uint8_t pq_write_sheet(const uint8_t *tree, size_t tree_len, const uint8_t *cells, size_t cells_len, uint8_t *out,
+    size_t out_len, size_t *len);
+
+/* The settings of a sheet stored in the cells, all of them or none. Just the sheets that pq_write_sheet writes for this tree are
+ * taken, from any box with the same tree: each line in its place, written as it would write it, and nothing before, between or
+ * behind. 1: as pq_check. 17: a label that cannot be written (as above), or not such a sheet, whatever its numbers. 18: a number is
+ * out of its setting's range, or of 32 bits. 0: each setting holds its number; marks and every other word are as they were. */
+uint8_t pq_read_sheet(const uint8_t *tree, size_t tree_len, uint8_t *cells, size_t cells_len, const uint8_t *sheet,
+    size_t sheet_len);
+
 /* ---- Requests answered ----
  * host is 0 where host functions are off, and any other number where they are on. *len is the length of the reply at the front
  * of out: a reply is to be sent exactly where it is not 0.
@@ -230,18 +265,18 @@ uint8_t pq_write_udp(uint8_t op, const uint8_t *path, size_t path_len, uint8_t i
  * The most that a call needs, in bytes, on x86-64 (python3 tests/stack.py target/staticlib/libpualirqiq.a): with its return
  * address, and without its arguments, which are the caller's, and without what memcpy and memset take themselves.
  *
- *   pq_begin_cells     248      pq_frame            16      pq_serve_data      424
- *   pq_begin_stream     24      pq_list           4720      pq_serve_serial    696
- *   pq_cells_size      232      pq_post            280      pq_serve_udp       424
- *   pq_check           248      pq_read_frame       96      pq_state_size        8
- *   pq_check_tree      216      pq_read_serial     232      pq_write_serial    184
- *   pq_datagram          8      pq_read_udp        184      pq_write_udp       184
- *   pq_datagram_data     8      pq_reading         280
- *   pq_feed             48      pq_restore_cells   264
+ *   pq_begin_cells     248      pq_frame            16      pq_restore_cells   264
+ *   pq_begin_stream     24      pq_list           4720      pq_serve_data      424
+ *   pq_cells_size      232      pq_post            280      pq_serve_serial    696
+ *   pq_check           248      pq_read_frame       96      pq_serve_udp       424
+ *   pq_check_tree      216      pq_read_serial     232      pq_state_size        8
+ *   pq_datagram          8      pq_read_sheet      408      pq_write_serial    184
+ *   pq_datagram_data     8      pq_read_udp        184      pq_write_sheet    1024
+ *   pq_feed             48      pq_reading         280      pq_write_udp       184
  *
- * Only pq_list recurses: a frame for each level of the tree, of which there are at most 16, and one for each digit of a number.
- * What stands here is for 16 levels. No call takes stack by the length of what it is lent. Another part or build differs: fill the
- * stack with a pattern, make the calls, and see how far down it was overwritten. */
+ * Only pq_list and pq_write_sheet recurse: a frame for each digit of a number, and pq_list one for each level of the tree, of
+ * which there are at most 16. What stands here is for 16 levels and 10 digits. No call takes stack by the length of what it is
+ * lent. Another part or build differs: fill the stack with a pattern, make the calls, and see how far down it was overwritten. */
 
 #ifdef __cplusplus
 }

@@ -17,6 +17,7 @@ them. `CALLS` has the kinds, and crates/calls/src says what each does with its n
 A case that has two lines of stdout has two of stdin.
 """
 import pathlib
+import re
 import sys
 
 H = bytes.fromhex
@@ -173,6 +174,21 @@ def signed(x, fmt):
     return x - 2**32 if fmt >> 15 and x >> 31 else x
 
 
+# The range rule: whether a property's word is signed, which number it is, and whether a number lies in the range.
+def is_signed(p):
+    return p[1] == 1 and p[5] >> 15 == 1
+
+
+def number_of(p, word):
+    return signed(word, p[5]) if is_signed(p) else word
+
+
+def in_range(p, number):
+    if p[1] == 1 and p[2] == p[3] == 0:
+        return -(2**31) <= number < 2**31 if is_signed(p) else 0 <= number < 2**32
+    return number_of(p, p[2]) <= number <= number_of(p, p[3])
+
+
 def serve(tree, host, d):
     if size(d):
         return size(d), b""
@@ -190,8 +206,8 @@ def serve(tree, host, d):
     if op == 1:
         return 0, d + bytes([len(tree.children(n)), len(tree.owned(n))]) + tree.nodes[n][1] + b"\0"
     place = tree.owned(n)[index - 1]
-    _, kind, least, most, attribute, fmt, label, options, _, _ = tree.properties[place]
-    cell = tree.cells[place]
+    p, cell = tree.properties[place], tree.cells[place]
+    _, kind, least, most, attribute, fmt, label, options, _, _ = p
     reads, writes, live = attribute & 1, attribute & 2, attribute & 0x2000
     if op == 2:
         numbers = bytes([kind]) + least.to_bytes(4, "big") + most.to_bytes(4, "big") + attribute.to_bytes(2, "big") + fmt.to_bytes(2, "big")
@@ -199,15 +215,11 @@ def serve(tree, host, d):
     if op == 3:
         # 003, 5.4: status 01 is OK.
         return (0, d + b"\x01" + cell[0].to_bytes(4, "big")) if reads and (not live or cell[1]) else (12, b"\x58")
-    if kind == 2:
-        fits = value <= most
-    else:
-        fits = (least, most) == (0, 0) or signed(least, fmt) <= signed(value, fmt) <= signed(most, fmt)
     if not writes:
         number, save, text = 13, 0, b"Read only"
     elif not reads:
         number, save, text = 0, 2, b""
-    elif not fits:
+    elif not in_range(p, number_of(p, value)):
         number, save, text = 13, 0, b"Range"
     else:
         cell[0] = value
@@ -235,6 +247,60 @@ def listing(tree, node=0, path=b"1"):
     for number, child in enumerate(below, 1):
         out += listing(tree, child, b"%b.%d" % (path, number))
     return out
+
+
+# 02, section 3. A setting: place, property.
+def settings(tree):
+    return [(place, p) for place, p in enumerate(tree.properties) if p[4] & 3 == 3]
+
+
+def is_writable(tree):
+    labels = [p[6] for _, p in settings(tree)]
+    return len(set(labels)) == len(labels) and not any(b"=" in label for label in labels)
+
+
+def sheet(tree):
+    """The number and the sheet: 17, 18 or 0."""
+    numbers = [number_of(p, tree.cells[place][0]) for place, p in settings(tree)]
+    if not is_writable(tree):
+        return 17, b""
+    if not all(in_range(p, number) for (_, p), number in zip(settings(tree), numbers)):
+        return 18, b""
+    return 0, b"".join(b"%b=%d\n" % (p[6], number) for (_, p), number in zip(settings(tree), numbers))
+
+
+def load(tree, text):
+    """The number of a sheet that is read: 17, 18 or 0. With 0 the cells have its numbers."""
+    line = lambda p: re.escape(p[6]) + (b"=(0|-?[1-9][0-9]*)\n" if is_signed(p) else b"=(0|[1-9][0-9]*)\n")
+    found = re.fullmatch(b"".join(line(p) for _, p in settings(tree)), text)
+    if not is_writable(tree) or found is None:
+        return 17
+    numbers = [int(number) for number in found.groups()]
+    if not all(in_range(p, number) for (_, p), number in zip(settings(tree), numbers)):
+        return 18
+    for (place, _), number in zip(settings(tree), numbers):
+        tree.cells[place][0] = number % 2**32
+    return 0
+
+
+# Signed settings, with and without a range; one of type 2 whose format has bit 15; a probe and an action whose labels a setting
+# could not have.
+def cold():
+    return Tree(
+        [(0, b"Cold")],
+        [(0, 1, 0, 0, 3, 0x8001, b"Offset", [b"C"], 2**32 - 5, 0), (0, 1, 2**32 - 40, 125, 3, 0x8000, b"Alarm", [b"C"], 2**32 - 40, 0),
+         (0, 1, 0, 0, 0x2001, 0x8000, b"Alarm", [b"C"], 77, 1), (0, 1, 1, 64, 3, 0x8000, b"", [b""], 64, 0),
+         (0, 1, 0, 0, 2, 0, b"Reset=all", [b""], 9, 0), (0, 2, 0, 1, 3, 0x9080, b"Mode", [b"a", b"b"], 1, 1),
+         (0, 1, 0, 0, 3, 0, b"Serial", [b""], 2**32 - 1, 0)],
+    )
+
+
+# The bench tree, Rate with another label, Average with another word.
+def altered(label=b"Rate", word=4):
+    tree = bench()
+    tree.properties[3] = (*tree.properties[3][:6], label, *tree.properties[3][7:])
+    tree.cells[2][0] = word
+    return tree
 
 
 # 01, Wrong builds: a setting with min and max 0, of type 1 and of type 2, and one that is signed.
@@ -435,6 +501,29 @@ CASES = [
     ("list/0 1020", "list_penko"),
     ("list/1", "list_unsound"),
     ("list/8", "list_no_room"),
+    # 02, section 3: sheets, with just the room that they take and with a byte less.
+    ("sheet/0", "sheet"),
+    ("sheet/0 signed", "sheet_cold"),
+    ("sheet/1", "sheet_unsound"),
+    ("sheet/17 = in a label", "sheet_equals"),
+    ("sheet/17 equal labels before 18", "sheet_same"),
+    ("sheet/18", "sheet_outside"),
+    ("sheet/8", "sheet_no_room"),
+    ("load/0", "load", b"Average=64\nRate=1\n"),
+    ("load/0 over a word out of range", "load_outside", b"Average=1\nRate=0\n"),
+    ("load/0 written again", "load_cold_back", b"Offset=-2147483648\nAlarm=0\n=1\nMode=0\nSerial=10\n"),
+    ("load/1", "load_unsound", b"Average=64\nRate=1\n"),
+    ("load/17 no last 0Ah", "load", b"Average=64\nRate=1"),
+    ("load/17 another order", "load", b"Rate=1\nAverage=64\n"),
+    ("load/17 an action's line", "load", b"Average=64\nRate=1\nRestart=0\n"),
+    ("load/17 a minus, unsigned", "load", b"Average=-5\nRate=1\n"),
+    ("load/17 a minus, type 2", "load_cold", b"Offset=0\nAlarm=0\n=1\nMode=-1\nSerial=0\n"),
+    ("load/17 -0 behind an 18", "load_cold", b"Offset=0\nAlarm=126\n=-0\nMode=1\nSerial=0\n"),
+    ("load/17 the tree's labels", "load_equals", b"Average=64\nRate=1=1\n"),
+    ("load/18 -5 of 1 to 64", "load_cold", b"Offset=0\nAlarm=0\n=-5\nMode=1\nSerial=0\n"),
+    ("load/18 2147483648", "load_cold", b"Offset=2147483648\nAlarm=0\n=1\nMode=1\nSerial=0\n"),
+    ("load/18 2^32", "load_cold", b"Offset=0\nAlarm=0\n=1\nMode=1\nSerial=4294967296\n"),
+    ("load/18 2^32 + 4", "load", b"Average=4294967300\nRate=1\n"),
     # 003: the checksum of a sum of 1234h, and the examples of section 5.
     ("003/checksum", "write_frame", 0, b"\xFF" * 18 + b"\x46"),
     ("003/5.1", "penko", H("B400")),
@@ -450,7 +539,7 @@ CASES = [
     ("003/5.6 gain point", "penko", H("B4050103020201030100" "000186A0")),
 ]
 
-# What the documents print in full.
+# What the documents print in full; of sheets, what they come to.
 SAYS = {
     "01/address 10h": "0 10021010B4003B1003",
     "01/10 02 10 03": "4 ",
@@ -461,6 +550,11 @@ SAYS = {
     "serve_data/0 op 2": "0 B402010202020000000000000001000310805261746500536C6F77004661737400",
     "serve_data/12": "12 58",
     "serve_data/13": "13 B405010101000000000000526561" "64206F6E6C7900",
+    "sheet/0": "0 417665726167653D340A" "526174653D300A",
+    "sheet/0 signed": "0 4F66667365743D2D350A" "416C61726D3D2D34300A" "3D36340A" "4D6F64653D310A" "53657269616C3D343239343936373239350A",
+    "sheet/8": "8 ",
+    "load/0": "0 0000083401" "0000213400" "0000004000" "0000000100" "0000000000",
+    "load/18 2^32 + 4": "18 0000083401" "0000213400" "0000000400" "0000000000" "0000000000",
     "003/5.2 totals": "0 B40101010A0401546F74616C7300",
     "003/5.3 weigher": "0 B40201010301010100000000000000002001C00357656967686572004B6700",
     "003/5.3 layout": "0 B40201030A010102000000000000000100031080" "4C61796F757400" "5469636B6574004C696E6500",
@@ -480,8 +574,25 @@ def variant(call):
     return call[: -len(suffixes[has.index(True)])] if any(has) else call, *has
 
 
+# Sheets written, and read: of which tree.
+SHEETS = {
+    "sheet": bench,
+    "sheet_cold": cold,
+    "sheet_equals": lambda: altered(label=b"Rate=1"),
+    "sheet_same": lambda: altered(label=b"Average", word=65),
+    "sheet_outside": lambda: altered(word=65),
+}
+LOADS = {
+    "load": bench,
+    "load_cold": cold,
+    "load_cold_back": cold,
+    "load_equals": lambda: altered(label=b"Rate=1"),
+    "load_outside": lambda: altered(word=65),
+}
+
+
 def tree_of(base):
-    return {"limits": limits, "penko": penko, "list_penko": penko}.get(base, bench)()
+    return {"limits": limits, "penko": penko, "list_penko": penko, **SHEETS, **LOADS}.get(base, bench)()
 
 
 def answers(call, args):
@@ -510,6 +621,13 @@ def answers(call, args):
     if base in ("list", "list_penko"):
         number, lines = 1 if unsound else 8 if no_room else 0, b"" if unsound else listing(tree)
         return [(number, b"" if number else lines), (number, len(lines).to_bytes(4, "big"))]
+    if base in SHEETS:
+        number, text = (1, b"") if unsound else sheet(tree)
+        number = 8 if no_room else number
+        return [(number, b"" if number else text), (number, len(text).to_bytes(4, "big"))]
+    if base in LOADS:
+        number, lent = (1, bytes(24)) if unsound else (load(tree, args[0]), tree.cell_bytes())
+        return [(number, lent)] + [sheet(tree)] * (base == "load_cold_back")
     if no_room or unsound:
         return [(8 if no_room else 1, b"")]
     if base in ("write_frame", "write_datagram"):
@@ -552,7 +670,8 @@ def lines():
 
 
 # The cases as lines of stdin. For each call: its kind, the room that it asks for, and the numbers that its arguments are, in order;
-# the argument that is bytes is the string. 520 for a call that has no output of its own; 0 for a listing, whose room is its length.
+# the argument that is bytes is the string. 520 for a call that has no output of its own; 0 for a listing or a sheet, whose room is
+# its length.
 CALLS = {
     "write_frame": (0x10, 520, ("address",)),
     "read_frame": (0x11, 256, ("address",)),
@@ -573,6 +692,9 @@ CALLS = {
     "reading": (0x42, 520, ("index",)),
     "list": (0x50, 0, ()),
     "list_length": (0x51, 0, ()),
+    "sheet": (0x60, 0, ()),
+    "sheet_length": (0x61, 0, ()),
+    "load": (0x62, 520, ()),
 }
 
 
@@ -582,6 +704,10 @@ def steps(name, base, args):
         return [(name, base, args), ("  op", base + "_fields", args)]
     if base in ("list", "list_penko"):
         return [(name, "list", []), ("  length", "list_length", [])]
+    if base in SHEETS:
+        return [(name, "sheet", []), ("  length", "sheet_length", [])]
+    if base in LOADS:
+        return [(name, "load", args)] + [(name, "sheet", [])] * (base == "load_cold_back")
     if base == "feed_twice":
         return [(name, "feed", [args[0], bs]) for bs in args[1:]]
     if base == "restore":
@@ -591,12 +717,19 @@ def steps(name, base, args):
     return [(name, base, args)]
 
 
+def length(base, args):
+    """How long a listing is, or a sheet: the one that was read before, or the tree's; 520 where it is refused."""
+    if base in ("list", "list_penko"):
+        return len(listing(tree_of(base)))
+    return len(b"".join(args) or sheet(tree_of(base))[1]) or 520
+
+
 def records(name, call, args):
     base, no_room, unsound, off = variant(call)
     tree, lent = b"", b""
     if base in ("feed", "feed_twice"):
         lent = bytes([4 if unsound else 0]) * 261
-    elif base in ("data", "twice", "limits", "penko", "serial", "udp", "post", "restore", "reading"):
+    elif base in ("data", "twice", "limits", "penko", "serial", "udp", "post", "restore", "reading", *SHEETS, *LOADS):
         tree, lent = tree_of(base).form(), bytes(24) if unsound else tree_of(base).cell_bytes()
     elif base in ("list", "list_penko"):
         tree = tree_of(base).form()[: -1 if unsound else None]
@@ -605,7 +738,7 @@ def records(name, call, args):
         host = int(step in ("data", "serial", "udp") and not off)
         n = {"address": 0, "mark": host, "index": 0, "value": 0}
         n.update(zip(names, (v for v in values if isinstance(v, int))))
-        room = room or len(listing(tree_of(base)))
+        room = room or length(base, args)
         numbers = bytes([kind]) + (room - no_room).to_bytes(2, "big") + len(lent).to_bytes(2, "big")
         numbers += bytes([n["address"], n["mark"], n["index"]]) + n["value"].to_bytes(4, "big")
         string = b"".join(v for v in values if isinstance(v, bytes))

@@ -1,7 +1,8 @@
 """Runs example/main.c, built with the static library, on exchanges of document 01 and compares every byte it sends: from cells
-that begin, from saved cells, and from saved ones that are spoilt.
+that begin with the factory's settings, from saved cells, and from saved ones that are spoilt.
 
-Usage: example.py PROGRAM. Frames are written here anew, from document 01's section "Frames on the wire".
+Usage: example.py PROGRAM REFUSED. Frames are written here anew, from document 01's section "Frames on the wire". REFUSED is built
+with a factory sheet that is out of range (18), and must say so and end with status 2.
 """
 import os
 import subprocess
@@ -28,8 +29,8 @@ def form(*cells):
 # Noise, a frame for another box, and stray 10h just before the next one (document 02, section 2).
 OTHERS = b"\x00\x10\x03" + frame(7, bytes.fromhex("B400")) + b"\x10\x10"
 
-# Requests and replies, as document 01 gives them for the bench tree; the read with its status byte (PDI 5.4); Average holds 0
-# until it is written, since the cells begin at 0.
+# Requests and replies, as document 01 gives them for the bench tree; the read with its status byte (PDI 5.4). Average begins with
+# the 4 of the factory sheet.
 EXCHANGES = [
     ("B4 00", "55"),
     ("B4 01 01", "B4 01 01 02 00 42 6F 78 00"),
@@ -39,7 +40,7 @@ EXCHANGES = [
     ),
     (PROBE_1, PROBE_1 + "01 00000834"),
     (PROBE_2, "58"),
-    (AVERAGE, AVERAGE + "01 00000000"),
+    (AVERAGE, AVERAGE + "01 00000004"),
     ("B4 04 01 02 01 00 00000040", "B4 04 01 02 01 00 00000040 01"),
     (AVERAGE, AVERAGE + "01 00000040"),
     ("B4 04 01 02 01 00 00000041", "B4 04 01 02 01 00 00000041 00"),
@@ -72,7 +73,7 @@ RESTORED = [
 ]
 
 # Nothing of spoilt cells is used, and the program begins where there are none.
-AFRESH = [(b"", PROBE_1, PROBE_1 + "01 00000834"), (b"", AVERAGE, AVERAGE + "01 00000000"), (b"", RATE, RATE + "01 00000000")]
+AFRESH = [(b"", PROBE_1, PROBE_1 + "01 00000834"), (b"", AVERAGE, AVERAGE + "01 00000004"), (b"", RATE, RATE + "01 00000000")]
 
 RUNS = [
     ("begun", None, BEGUN, b"restart\n"),
@@ -101,8 +102,16 @@ def is_answered(program, saved, exchanges, told):
     return False
 
 
+def is_refused(program):
+    run = subprocess.run([program], input=frame(0, bytes.fromhex("B400")), capture_output=True, check=False)
+    return run.returncode == 2 and run.stdout == b"" and run.stderr == b"factory sheet: 18\n"
+
+
 def main():
     failed = 0
+    if not is_refused(sys.argv[2]):
+        print("example: a factory sheet out of range is not refused")
+        failed += 1
     for name, saved, exchanges, told in RUNS:
         if not is_answered(sys.argv[1], saved, exchanges, told):
             print(f"example: cells {name}: failed")

@@ -20,7 +20,8 @@ if command -v c++ > /dev/null; then
 fi
 
 cc -std=c99 $strict -O2 -o target/example example/main.c $library
-python3 tests/example.py target/example
+sed 's/"Average=4/"Average=0/' example/main.c | cc -std=c99 $strict -O2 -o target/refused -x c - -x none $library
+python3 tests/example.py target/example target/refused
 cc -std=c99 $strict -O2 -Wl,--wrap=memcpy,--wrap=memset -o target/null tests/null.c $library
 target/null
 python3 tests/stack.py $library include/pualirqiq.h

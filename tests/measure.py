@@ -28,7 +28,7 @@ Written by `tests/measure.sh`; the numbers are those of one run on one machine (
 *Ours* is the static library, called as C calls it. *Second* is the second implementation in `tests/second`, an ordinary Rust
 program written from the documents, built by rustc with `opt-level = 3`. Both work from the same lent bytes: for each request
 the second one, too, reads and checks the whole tree and the cells, since no call trusts an earlier check. Bounds of slices are
-tested at run time in the second one; it allocates two lists for a tree, and one more for a listing.
+tested at run time in the second one; it allocates two lists for a tree, one more for a listing, and two or three for a sheet.
 
 - Time: nanoseconds for one call, the best of 100 runs of at least 2 ms each, the two sides by turns, in each of three processes.
 - Instructions: counted by `valgrind --tool=callgrind`, {many} calls less {few} calls, divided by {difference}.
@@ -36,6 +36,8 @@ tested at run time in the second one; it allocates two lists for a tree, and one
 - The bench tree takes 159 bytes and has 3 nodes and 5 properties. The largest takes 27330 bytes: 64 nodes, 128 properties,
   every text as long as it may be; requests go to a property of a node at depth 16. Their listings have
   314 and 13430 bytes.
+- The bench tree's sheet has 17 bytes. The tree of 128 settings takes 27330 bytes too; its sheet is the longest there is, 4608
+  bytes: labels of 23 characters, which differ in the last two, and the number -2147483648 in each line.
 - Every row with a tree carries the check of that tree and, but for `pq_list`, of its cells, which is all of a `check` row.
 
 | Call | Ours, ns | Second, ns | Ratio | Ours, instructions | Second, instructions | Ratio |
@@ -59,7 +61,12 @@ TAIL = """
   nodes, and nodes times properties. It needs no memory for that; the second implementation keeps a list of lengths for the nodes
   and writes each entry where it belongs. These rows lend room for every listing; with less room than that the walk is made
   twice, first to count.
-- The check of the tree is most of a row with a tree, listings apart (two thirds or more on the bench tree): about 6 instructions
+- A sheet wants its settings' labels to differ. Each is compared with those behind it, where they stand, so that no memory is needed:
+  8,128 pairs for 128 settings. In the rows of 128 settings those of a pair differ in the last two of 23 characters alone, and the
+  pairs are most of the call; the second implementation sorts the labels in a list that it allocates. Reading goes over the sheet
+  twice, since nothing may be stored before all of it was judged. Writing has room for every sheet here; with less the lines are
+  made twice, first to count.
+- The check of the tree is most of a row with a tree, listings and sheets apart (two thirds or more on the bench tree): about 6 instructions
   for a byte of text (`soundness::texts::characters_end`), and 31 for the numbers of a property (`tree::record::read_fields`).
 """
 
@@ -68,8 +75,8 @@ def what(row):
     if row in WHAT:
         return WHAT[row]
     call, tree = row.split("-")
-    tree = {"bench": "bench tree", "largest": "largest tree"}[tree]
-    if call in ("check", "list", "reading"):
+    tree = {"bench": "bench tree", "largest": "largest tree", "settings": "tree of 128 settings"}[tree]
+    if call in ("check", "list", "reading", "write_sheet", "read_sheet"):
         return f"`pq_{call}`, {tree}"
     return f"`pq_serve_data`, op {call[2:]}, {tree}"
 

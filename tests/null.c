@@ -8,6 +8,8 @@
 static const uint8_t tree[] = {1, 0, 0, 0, 5, 'B', 0};
 /* One property, which needs a cell. */
 static const uint8_t wide[] = {1, 1, 0, 0, 21, 0, 1, 0, 0, 0, 0, 0, 0, 0, 0, 0x20, 0x01, 0, 0, 0, 23, 'B', 0, 'P', 0, 'C', 0};
+/* The same property as a setting. */
+static const uint8_t set[] = {1, 1, 0, 0, 21, 0, 1, 0, 0, 0, 0, 0, 0, 0, 0, 0, 0x03, 0, 0, 0, 23, 'B', 0, 'P', 0, 'C', 0};
 
 static uint8_t state[PQ_STATE_SIZE], cell[PQ_CELL_SIZE], out[PQ_ROOM_SERIAL], path[PQ_PATH_SIZE], op, index, action;
 static size_t len, taken, offset;
@@ -104,6 +106,32 @@ static void on_listings(uint8_t *none)
     EXPECT(0, len);
 }
 
+static void on_sheets(uint8_t *none)
+{
+    static const uint8_t sheet[] = {'P', '=', '7', '\n'}, kept[] = {'P', '=', '0', '\n'};
+
+    EXPECT(1, pq_write_sheet(none, 0, none, 0, none, 0, &len));
+    EXPECT(0, len);
+    EXPECT(1, pq_write_sheet(set, sizeof set, none, 0, out, sizeof out, &len));
+    EXPECT(8, pq_write_sheet(set, sizeof set, cell, sizeof cell, none, 0, &len));
+    EXPECT(sizeof kept, len);
+    /* No settings: the sheet is empty. */
+    EXPECT(0, pq_write_sheet(tree, sizeof tree, none, 0, none, 0, &len));
+    EXPECT(0, len);
+    EXPECT(0, pq_write_sheet(wide, sizeof wide, cell, sizeof cell, none, 0, &len));
+    EXPECT(0, len);
+    EXPECT(1, pq_read_sheet(none, 0, none, 0, none, 0));
+    EXPECT(1, pq_read_sheet(set, sizeof set, none, 0, sheet, sizeof sheet));
+    EXPECT(17, pq_read_sheet(set, sizeof set, cell, sizeof cell, none, 0));
+    EXPECT(17, pq_read_sheet(tree, sizeof tree, none, 0, sheet, sizeof sheet));
+    EXPECT(0, pq_read_sheet(tree, sizeof tree, none, 0, none, 0));
+    EXPECT(0, pq_read_sheet(wide, sizeof wide, cell, sizeof cell, none, 0));
+    EXPECT(0, pq_read_sheet(set, sizeof set, cell, sizeof cell, sheet, sizeof sheet));
+    EXPECT(7, cell[3]);
+    EXPECT(0, pq_read_sheet(set, sizeof set, cell, sizeof cell, kept, sizeof kept));
+    EXPECT(0, cell[3]);
+}
+
 static void on_serving(uint8_t *none)
 {
     static const uint8_t detect[] = {0xB4, 0}, node[] = {0xB4, 1, 1}, read[] = {0xB4, 3, 1, 1};
@@ -157,6 +185,7 @@ int main(void)
         on_streams(pointers[i]);
         on_cells(pointers[i]);
         on_listings(pointers[i]);
+        on_sheets(pointers[i]);
         on_serving(pointers[i]);
         on_frames(pointers[i]);
         on_requests(pointers[i]);

@@ -3,6 +3,7 @@ mod listings;
 mod readings;
 mod requests;
 mod serve;
+mod sheets;
 mod wire;
 
 use frame::Written;
@@ -55,7 +56,10 @@ fn call(n: Numbers, string: &[u8], tree: &[u8], lent: &mut [u8], out: &mut [u8])
     if n.kind < 0x50 {
         return readings::run(n, tree, lent, out);
     }
-    listings::run(n, tree, out)
+    if n.kind < 0x60 {
+        return listings::run(n, tree, out);
+    }
+    sheets::run(n, string, tree, lent, out)
 }
 
 // The same, where the kind is known. What it tells lies in the output.

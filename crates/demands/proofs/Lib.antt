@@ -7,3 +7,4 @@ pub mod Requests
 pub mod Demand3
 pub mod Listing
 pub mod StrayDle
+pub mod Sheets

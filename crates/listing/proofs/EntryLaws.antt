@@ -4,16 +4,16 @@ use Prim.Native.Nat.{ℕ, _+_, _*_, _<_, _≤_}
 use native.Mathlib.Omega.{arith}
 use native.Mathlib.Numerals.{add-one}
 use mathlib.Core.Path.{_≡_, refl, sym, ap, _∙_}
-use mathlib.Core.Bool.{true, cond}
+use mathlib.Core.Bool.{true}
 use mathlib.Core.List.{List, [], _∷_, _++_}
 use borrow.Author.Tests.{eq-eqb, ne-eqb}
-use lib.ListN.{length, getD, drop, drop-of-length-le}
-use lib.Seq.{drop-cons}
+use lib.ListN.{length, getD, drop}
 use lib.Dec.{eqb}
 use Rattle.protocol.specs.Buffer.{farthest, Laid}
 use Rattle.protocol.specs.Tree.{Tree, placesFrom, childrenOf, propertiesOf, nodeIn, propertyIn}
 use Rattle.protocol.specs.Text.{each, decimal, dotted, line}
 use Rattle.protocol.specs.Listing.{node, property, propertyItems, itemsAt, entryOf, entryText, pathKey, nameKey, childrenKey, propertiesKey, indexKey, labelKey, typeKey}
+use Rattle.protocol.proofs.PlaceLaws.{places-here, places-past, places-end}
 use Rattle.protocol.proofs.LayLaws.{laid-same, laid-as, laid-join, Laying, lay-begins, lay-ends, lay-as, lay-more}
 use Rattle.tree.specs.Form.{propertySize, propertiesStart}
 use Rattle.tree.specs.Seen.{seen, nodeCount}
@@ -52,22 +52,14 @@ abbrev propertiesFrom : Tree → ℕ → ℕ → List ℕ
 propertiesFrom t k p = placesFrom p (λ x. eqb (x .node) k) (drop p (t .properties))
 
 module _ (t : Tree) (k : ℕ) where
-  properties-step : (p : ℕ) → p < length (t .properties)
-      → propertiesFrom t k p ≡ cond (eqb (propertyIn t p .node) k) (p ∷ []) [] ++ propertiesFrom t k (p + 1)
-  unfolding placesFrom
-  properties-step p h =
-      ap (placesFrom p (λ x. eqb (x .node) k)) (drop-cons (t .properties) p _ h)
-      ∙ ap (λ n. cond (eqb (propertyIn t p .node) k) (p ∷ []) [] ++ placesFrom n (λ x. eqb (x .node) k) (drop n (t .properties))) (sym (add-one p))
-
   properties-here : (p : ℕ) → p < length (t .properties) → propertyIn t p .node ≡ k → propertiesFrom t k p ≡ p ∷ propertiesFrom t k (p + 1)
-  properties-here p h e = properties-step p h ∙ rw (eq-eqb (propertyIn t p .node) k e)
+  properties-here p h e = places-here (λ x. eqb (x .node) k) (t .properties) _ p h (eq-eqb (propertyIn t p .node) k e)
 
   properties-past : (p : ℕ) → p < length (t .properties) → (propertyIn t p .node ≡ k → ⊥) → propertiesFrom t k p ≡ propertiesFrom t k (p + 1)
-  properties-past p h e = properties-step p h ∙ rw (ne-eqb (propertyIn t p .node) k e)
+  properties-past p h e = places-past (λ x. eqb (x .node) k) (t .properties) _ p h (ne-eqb (propertyIn t p .node) k e)
 
   properties-end : (p : ℕ) → length (t .properties) ≤ p → propertiesFrom t k p ≡ []
-  unfolding placesFrom
-  properties-end p h = ap (placesFrom p (λ x. eqb (x .node) k)) (drop-of-length-le (t .properties) {i = p} h)
+  properties-end p h = places-end (λ x. eqb (x .node) k) (t .properties) p h
 
   properties-all : propertiesOf t k ≡ propertiesFrom t k 0
   unfolding propertiesOf

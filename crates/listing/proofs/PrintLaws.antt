@@ -10,7 +10,7 @@ use borrow.Author.Tests.{lt-ltb, le-ltb}
 use lib.ListN.{length, take, drop, length-take, length-append}
 use lib.Seq.{take-all}
 use Rattle.protocol.specs.Numbers.{done, unsound}
-use Rattle.protocol.specs.Buffer.{over, farthest, Laid}
+use Rattle.protocol.specs.Buffer.{over, farthest, Laid, textNumber}
 use Rattle.protocol.specs.Text.{decimalIn, decimal, line, answerKey}
 use Rattle.protocol.specs.Listing.{listing}
 use Rattle.protocol.proofs.BufferLaws.{over-nil}
@@ -18,10 +18,10 @@ use Rattle.protocol.proofs.LayLaws.{laid-front}
 use Rattle.protocol.proofs.LongestLaws.{listing-longest}
 use Rattle.tree.specs.Seen.{seen}
 use Rattle.soundness.specs.Sound.{isTree}
-use Rattle.soundness.proofs.FormLaws.{tree-longest}
-use Rattle.listing.specs.Lists.{listingIn, listNumber, Lists}
+use Rattle.soundness.proofs.FormLaws.{tree-longest, seen-sound}
+use Rattle.listing.specs.Lists.{listed, listingIn, listNumber, Lists}
 use Rattle.listing.specs.Print.{listingRoom, inputRoom, shown, printed, Prints}
-use Rattle.listing.proofs.WalkLaws.{seen-sound}
+use Rattle.listing.proofs.ListsLaws.{text-is}
 
 pub prints-none : (input old : List ℕ) → length old < listingRoom → Prints (printed (length old) input) old 0 old
 unfolding printed
@@ -39,16 +39,16 @@ module _ (input old : List ℕ) (h : listingRoom ≤ length old) {n size : ℕ} 
   unfolding printed
   whole = rw (le-ltb (length old) listingRoom h)
 
-  listed : isTree input ≡ true → listingIn input ≡ shown input
-  unfolding listingIn shown
-  listed e = rw e
+  shows : isTree input ≡ true → listingIn input ≡ shown input
+  unfolding shown
+  shows e = text-is input e ∙ sym (rw e)
 
   refused : isTree input ≡ false → line answerKey (decimal unsound) ≡ shown input
   unfolding shown
   refused e = rw e
 
   numbered : (b : Bool) → isTree input ≡ b → listNumber (length old) input ≡ cond b done unsound
-  unfolding listNumber listingIn
+  unfolding textNumber listed
   numbered true e = rw (e, le-ltb (length old) (length (listing (seen input))) (omega (arith, h, listing-longest (seen input) (seen-sound input e))))
   numbered false e = rw e
 
@@ -57,7 +57,7 @@ module _ (input old : List ℕ) (h : listingRoom ≤ length old) {n size : ℕ} 
     where
       go : (b : Bool) → isTree input ≡ b → Prints (printed (length old) input) old size mid
       go true b =
-          let text : listingIn input ≡ printed (length old) input = listed b ∙ sym whole in
+          let text : listingIn input ≡ printed (length old) input = shows b ∙ sym whole in
           let d : listNumber (length old) input ≡ done = numbered true b in
           let put : mid ≡ over (listingIn input) old = l .bytes ∙ rw d in
           record { len = l .len ∙ ap length text; bytes = put ∙ ap (λ s. over s old) text }

@@ -14,14 +14,13 @@ use Rattle.protocol.specs.Tree.{Tree, nodeIn, sound}
 use Rattle.protocol.specs.Text.{each}
 use Rattle.protocol.specs.Listing.{Visit, Item, below, subtree, walk, itemsAt, items, entryOf, entryText, entries, listing}
 use Rattle.protocol.proofs.LayLaws.{laid-as, laid-join, Laying, lay-begins, lay-ends, lay-as, lay-more}
-use Rattle.protocol.proofs.TestLaws.{and-right}
 use Rattle.protocol.proofs.WalkLaws.{each-append, below-end, below-child, below-other, depthOf, not-deep, device-depth, depth-child}
 use Rattle.protocol.proofs.OnceLaws.{Rules, rules}
-use Rattle.tree.specs.Seen.{seen, same}
-use Rattle.tree.specs.Form.{nodeSize, treeForm}
+use Rattle.tree.specs.Seen.{seen}
+use Rattle.tree.specs.Form.{nodeSize}
 use Rattle.tree.proofs.FieldLaws.{node-count, parent-at}
 use Rattle.soundness.specs.Sound.{isTree}
-use Rattle.soundness.proofs.FormLaws.{records-within}
+use Rattle.soundness.proofs.FormLaws.{seen-sound, records-within}
 use Rattle.listing.specs.declared.path.Path.{Path}
 use Rattle.listing.specs.Steps.{pathIn, PathIs, itemsText, ownText, walkText, Stands}
 
@@ -109,10 +108,6 @@ module _ (bs path : List ℕ) {k : ℕ} {old : List ℕ} {at : ℕ} {out : List 
   descend-ends h = lay-ends (lay-as (ap (walkText (seen bs)) (below-end (seen bs) j k path (number + 1) h)) (w .laying))
 
 -- Where a node stands: the device, a child, and the same node at another place of the output.
-pub seen-sound : (bs : List ℕ) → isTree bs ≡ true → sound (seen bs) ≡ true
-unfolding isTree
-seen-sound bs h = and-right (same bs (treeForm (seen bs))) _ h
-
 seen-rules : (bs : List ℕ) → isTree bs ≡ true → Rules (seen bs)
 seen-rules bs h = rules (seen bs) (seen-sound bs h)
 

@@ -3,7 +3,7 @@
 use Prim.Native.Nat.{ℕ, zero, suc, _+_, _-_, _*_, _/_, _%_, _^_, _<_, _≤_}
 use native.Mathlib.Omega.{arith}
 use mathlib.Core.Path.{_≡_, refl, sym, ap, ap₂, subst, _∙_}
-use mathlib.Core.Bool.{Bool, true, false, not, _&&_}
+use mathlib.Core.Bool.{Bool, true, false, not}
 use mathlib.Core.List.{List, [], _∷_, _++_, append-assoc, head-eq-of-cons-eq, tail-eq-of-cons-eq}
 use borrow.Author.Tests.{lt-ltb, le-ltb, ltb-true, ltb-false, leb-true, le-leb, ne-eqb, eqb-false, not-true}
 use lib.ListN.{length, length-append}
@@ -11,6 +11,7 @@ use lib.Dec.{eqb, leb, ltb}
 use Rattle.protocol.specs.Bytes.{every}
 use Rattle.protocol.specs.Text.{digit, decimalIn, decimal, dottedOn, dotted}
 use Rattle.protocol.specs.Listed.{lacks}
+use Rattle.protocol.specs.Signed.{isDigit, valueAfter}
 use Rattle.protocol.proofs.TestLaws.{and-left, and-right, and-both, every-append, every-one, every-weaker}
 
 -- Leave for more digits than there are changes nothing.
@@ -39,7 +40,7 @@ decimal-more (suc n) h =
     (ap (λ l. l ++ digit (suc n % 10) ∷ []) (digits-left n (suc n / 10) (suc n / 10) (omega (arith, h)) (omega arith)))
 
 -- What holds of one digit, and with one digit more, holds of every number's text.
-by-digits : (P : ℕ → List ℕ → Type 0) → ((n : ℕ) → n < 10 → P n (digit n ∷ []))
+pub by-digits : (P : ℕ → List ℕ → Type 0) → ((n : ℕ) → n < 10 → P n (digit n ∷ []))
     → ((n : ℕ) → 10 ≤ n → P (n / 10) (decimal (n / 10)) → P n (decimal (n / 10) ++ digit (n % 10) ∷ [])) → (n : ℕ) → P n (decimal n)
 by-digits P small more n = within n n (omega arith)
   where
@@ -51,17 +52,13 @@ by-digits P small more n = within n n (omega arith)
         go on true e = let l = ltb-true n 10 e in subst (P n) (sym (decimal-small n l)) (small n l)
         go on false e = let l = ltb-false n 10 e in subst (P n) (sym (decimal-more n l)) (more n l (on l))
 
--- The number that digits stand for, with n in front of them.
-valueAfter : ℕ → List ℕ → ℕ
-valueAfter n [] = n
-valueAfter n (c ∷ cs) = valueAfter (n * 10 + (c - 48)) cs
-
-after-append : (n : ℕ) (xs ys : List ℕ) → valueAfter n (xs ++ ys) ≡ valueAfter (valueAfter n xs) ys
+-- The number that digits stand for is the one that they were made of.
+pub after-append : (n : ℕ) (xs ys : List ℕ) → valueAfter n (xs ++ ys) ≡ valueAfter (valueAfter n xs) ys
 unfolding valueAfter
 after-append n [] ys = refl
 after-append n (x ∷ xs) ys = after-append (n * 10 + (x - 48)) xs ys
 
-decimal-value : (n : ℕ) → valueAfter 0 (decimal n) ≡ n
+pub decimal-value : (n : ℕ) → valueAfter 0 (decimal n) ≡ n
 unfolding valueAfter
 decimal-value n =
     by-digits (λ m s. valueAfter 0 s ≡ m) (λ m h. omega arith)
@@ -72,14 +69,11 @@ pub decimal-told : (m n : ℕ) → decimal m ≡ decimal n → m ≡ n
 decimal-told m n e = sym (decimal-value m) ∙ ap (valueAfter 0) e ∙ decimal-value n
 
 -- It has a digit, and digits only: no 0Ah and no dot.
-decimal-long : (n : ℕ) → 1 ≤ length (decimal n)
+pub decimal-long : (n : ℕ) → 1 ≤ length (decimal n)
 decimal-long n =
     by-digits (λ m s. 1 ≤ length s) (λ m h. omega arith)
     (λ m h l. omega (arith, l, length-append (decimal (m / 10)) (digit (m % 10) ∷ [])))
     n
-
-abbrev pub isDigit : ℕ → Bool
-isDigit c = leb 48 c && leb c 57
 
 is-digit : (d : ℕ) → d < 10 → isDigit (digit d) ≡ true
 is-digit d h = and-both (le-leb 48 (48 + d) (omega arith)) (le-leb (48 + d) 57 (omega (arith, h)))

@@ -1,9 +1,12 @@
 -- What is proved of the definitions of specs/.
 pub mod TestLaws
 pub mod ListLaws
+pub mod PlaceLaws
 pub mod BufferLaws
 pub mod LayLaws
+pub mod FillLaws
 pub mod DecimalLaws
+pub mod SignedLaws
 pub mod FrameLaws
 pub mod StreamLaws
 pub mod RequestLaws
@@ -14,4 +17,6 @@ pub mod OnceLaws
 pub mod WalkLaws
 pub mod ToldLaws
 pub mod LongestLaws
+pub mod SheetLaws
+pub mod LoadLaws
 pub mod Marked

@@ -142,7 +142,7 @@ walk-fits t r =
     )
 
 -- No more entries pass a test than there are.
-places-few : {A : Type 0} (k : ℕ) (f : A → Bool) (xs : List A) → length (placesFrom k f xs) ≤ length xs
+pub places-few : {A : Type 0} (k : ℕ) (f : A → Bool) (xs : List A) → length (placesFrom k f xs) ≤ length xs
 unfolding placesFrom
 places-few k f [] = omega arith
 places-few k f (x ∷ xs) = go (f x) (places-few (suc k) f xs)
@@ -162,9 +162,9 @@ unfolding propertiesOf
 properties-few t r k = omega (arith, places-few 0 (λ p. eqb (p .node) k) (t .properties), r .fewer)
 
 -- The length of a line, and of four.
-line-size : (key value : List ℕ) → length (line key value) ≡ length key + length value + 2
+pub line-length : (key value : List ℕ) → length (line key value) ≡ length key + length value + 2
 unfolding line
-line-size key value =
+line-length key value =
     omega (arith, length-append key (61 ∷ (value ++ 10 ∷ [])), length-append value (10 ∷ []))
 
 lines-size : (a b c d v w x y : List ℕ)
@@ -176,10 +176,10 @@ lines-size a b c d v w x y =
       length-append (line a v) (line b w ++ (line c x ++ line d y)),
       length-append (line b w) (line c x ++ line d y),
       length-append (line c x) (line d y),
-      line-size a v,
-      line-size b w,
-      line-size c x,
-      line-size d y,
+      line-length a v,
+      line-length b w,
+      line-length c x,
+      line-length d y,
     )
 
 -- What an item is listed with takes at most 98 bytes for a node, and 89 for a property.

@@ -19,7 +19,7 @@ use Rattle.protocol.proofs.DecimalLaws.{decimal-told, decimal-lacks, do
 use Rattle.protocol.proofs.OnceLaws.{Rules, rules, property-passes}
 
 -- A line, and what stands behind it.
-line-on : (key value r : List ℕ) → line key value ++ r ≡ key ++ 61 ∷ (value ++ 10 ∷ r)
+pub line-on : (key value r : List ℕ) → line key value ++ r ≡ key ++ 61 ∷ (value ++ 10 ∷ r)
 unfolding line
 line-on key value r =
     append-assoc key (61 ∷ (value ++ 10 ∷ [])) r ∙ ap (λ l. key ++ 61 ∷ l) (append-assoc value (10 ∷ []) r)

@@ -22,6 +22,10 @@ inRange p v =
     (cond (eqb (p .min) 0 && eqb (p .max) 0) true (within (isSigned p) p v))
     (leb v (p .max))
 
+-- Whether the range rule takes a value as signed: type 1 with format bit 15.
+unfoldable pub takesSign : Property → Bool
+takesSign p = eqb (p .kind) standard && isSigned p
+
 -- What a write does: the value is saved, the action is taken, or neither, and why.
 pub data Outcome : Type 0 where
   saved taken readOnly outOfRange : Outcome

@@ -12,5 +12,7 @@ pub mod Text
 pub mod Listing
 pub mod Listed
 pub mod Answer
+pub mod Signed
+pub mod Sheet
 pub mod Bench
 pub mod Marked

@@ -1,4 +1,4 @@
--- The numbers of documents 01 and 003, each named once.
+-- The numbers of documents 01, 02 and 003, each named once.
 use Prim.Native.Nat.{ℕ, _^_}
 
 -- 01, Numbers returned.
@@ -52,6 +52,14 @@ notSaved = 13
 -- a posting to a cell that does not exist or is not live
 abbrev pub notLive : ℕ
 notLive = 14
+
+-- 02, section 3: no sheet of this tree, or a label that cannot be written
+abbrev pub badSheet : ℕ
+badSheet = 17
+
+-- 02, section 3: a number read, or a stored word written, that is out of range or of 32 bits
+abbrev pub notInRange : ℕ
+notInRange = 18
 
 -- House: what a call says that ended no frame. No row of a table has this number.
 abbrev pub noFrame : ℕ

@@ -1,8 +1,9 @@
 -- Text, as lists of ASCII codes: numbers, paths, bytes in hex, and lines.
 use Prim.Native.Nat.{ℕ, zero, suc, _+_, _/_, _%_}
-use mathlib.Core.Bool.{true, false, cond}
+use mathlib.Core.Bool.{Bool, true, false, cond, _&&_}
 use mathlib.Core.List.{List, [], _∷_, _++_}
-use lib.Dec.{ltb}
+use lib.ListN.{length}
+use lib.Dec.{eqb, ltb}
 
 -- What each entry gives, one behind the other.
 module _ {A B : Type 0} (f : A → List B) where
@@ -43,6 +44,15 @@ hexByte b = hexDigit (b / 16) ∷ hexDigit (b % 16) ∷ []
 
 abbrev pub hex : List ℕ → List ℕ
 hex bs = each hexByte bs
+
+-- A text that stands in front of some bytes, and two texts that are the same.
+unfoldable pub begins : List ℕ → List ℕ → Bool
+begins [] bs = true
+begins (c ∷ cs) [] = false
+begins (c ∷ cs) (b ∷ bs) = eqb c b && begins cs bs
+
+unfoldable pub sameText : List ℕ → List ℕ → Bool
+sameText s t = eqb (length s) (length t) && begins s t
 
 -- A line: a key, "=", a value, and the 0Ah that ends it.
 unfoldable pub line : List ℕ → List ℕ → List ℕ

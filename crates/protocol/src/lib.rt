@@ -40,6 +40,11 @@ pub const NOT_SAVED: u8 = 13;
 
 pub const NOT_LIVE: u8 = 14;
 
+// Numbers returned (document 02, section 3).
+pub const BAD_SHEET: u8 = 17;
+
+pub const NOT_IN_RANGE: u8 = 18;
+
 pub const NO_FRAME: u8 = 255;
 
 // No action is to be taken: no property has this place.

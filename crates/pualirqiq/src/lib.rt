@@ -11,7 +11,7 @@ ghost use mathlib.Core.Bool.{true};
 ghost use lib.ListN.{length};
 ghost use Rattle.protocol.specs.Numbers.{roomData, roomSerial, roomUdp};
 ghost use Rattle.protocol.specs.Frame.{ifRoom, readFrame, readDatagram, writeFrame, writeDatagram};
-ghost use Rattle.protocol.specs.Buffer.{Emits};
+ghost use Rattle.protocol.specs.Buffer.{Emits, Fills};
 ghost use Rattle.protocol.specs.Request as rule;
 ghost use Rattle.protocol.specs.Request.{requestOf, readSerial, readUdp, serialForm, udpForm};
 ghost use Rattle.stream.specs.State.{stateLength};
@@ -20,6 +20,7 @@ ghost use Rattle.listing.specs.Lists.{Lists};
 ghost use Rattle.request.specs.Asked.{AskedIs};
 ghost use Rattle.compose.specs.Write.{writeRequest};
 ghost use Rattle.cells.specs.Lent.{lentNumber, Updates, postIn, restoreIn, Reads, readIn};
+ghost use Rattle.sheet.specs.Sheets.{written, loadIn};
 ghost use Rattle.answer.specs.Serve.{serveData, serveSerial, serveUdp, Serves};
 ghost use Rattle.pualirqiq.specs.Calls.{truth, Zeroes, isStateSized, cellsSize, isCellsSized, treeNumber, handed, HandsBack, Locates};
 
@@ -110,6 +111,24 @@ pub extern "C" fn pq_list(tree: &[u8], out: &mut [u8], len: &mut usize) -> u8
     let listed = listing::list(tree, out);
     *len = listed.len;
     listed.number
+}
+
+// The settings on a sheet: 1, 17, 18, 8 or 0. Its length is told with 8 too.
+#[no_mangle]
+pub extern "C" fn pq_write_sheet(tree: &[u8], cells: &[u8], out: &mut [u8], len: &mut usize) -> u8
+    ensures { λ r. ⌜ Fills (written (now (tree .entry)) (now (cells .entry))) (now (out .entry)) r (now (len .exit)) (now (out .exit)) ⌝ }
+{
+    let sheet = sheet::write_sheet(tree, cells, out);
+    *len = sheet.len;
+    sheet.number
+}
+
+// The settings of a sheet stored, all or none: 1, 17, 18 or 0.
+#[no_mangle]
+pub extern "C" fn pq_read_sheet(tree: &[u8], cells: &mut [u8], sheet: &[u8]) -> u8
+    ensures { λ r. ⌜ Updates (loadIn (now (tree .entry)) (now (cells .entry)) (now (sheet .entry))) r (now (cells .exit)) ⌝ }
+{
+    sheet::read_sheet(tree, cells, sheet)
 }
 
 // Cells that begin: every word 0, none ready: 1 or 0.

@@ -12,8 +12,7 @@ use Rattle.protocol.specs.Tree.{Property, Tree, childrenOf, propertiesOf, nodeI
 use Rattle.protocol.specs.Answer.{Outcome, saveByte, reason, recordTexts, nodeBody, recordBody, writeBody}
 use Rattle.protocol.proofs.BufferLaws.{fit-as, fits-join}
 use Rattle.tree.specs.declared.record.Fields.{Fields}
-use Rattle.tree.specs.Lookup.{FieldsAre}
-use Rattle.tree.specs.Steps.{numbersOf}
+use Rattle.tree.specs.Lookup.{FieldsAre, numbersOf}
 use Rattle.reply.specs.declared.write.Outcome as written
 use Rattle.reply.specs.Outcome.{meaning}
 use Rattle.reply.specs.Steps.{numbersIn}

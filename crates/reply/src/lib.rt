@@ -14,7 +14,7 @@ ghost use Rattle.protocol.specs.Buffer.{fitting, Put};
 ghost use Rattle.protocol.specs.Tree.{propertyIn};
 ghost use Rattle.protocol.specs.Answer.{reason, nodeBody, recordBody, readBody, writeBody};
 ghost use Rattle.tree.specs.Seen.{seen};
-ghost use Rattle.tree.specs.Steps.{numbersOf};
+ghost use Rattle.tree.specs.Lookup.{numbersOf};
 ghost use Rattle.reply.specs.Outcome.{meaning};
 ghost use Rattle.reply.specs.Steps.{numbersIn};
 

@@ -235,6 +235,11 @@ tree-sound bs t h =
       same-eq bs (treeForm (seen bs)) (and-left (same bs (treeForm (seen bs))) _ passed) ∙ ap treeForm is,
     )
 
+-- The tree that is seen in bytes that stand for one.
+pub seen-sound : (bs : List ℕ) → isTree bs ≡ true → sound (seen bs) ≡ true
+unfolding isTree
+seen-sound bs h = and-right (same bs (treeForm (seen bs))) _ h
+
 -- No form of a sound tree is longer than 27,330 bytes, and neither are bytes that stand for one.
 pub form-longest : (t : Tree) → sound t ≡ true → length (treeForm t) ≤ 27330
 form-longest t h =

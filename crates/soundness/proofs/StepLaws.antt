@@ -21,8 +21,7 @@ use Rattle.tree.specs.declared.Found.the-variants.{At, Nothing}
 use Rattle.tree.specs.declared.record.Fields.{Fields}
 use Rattle.tree.specs.Form.{nodeSize, propertySize, propertiesStart, textsStart}
 use Rattle.tree.specs.Seen.{halfAt, wordAt, seen, nodeCount, propertyCount, propertySeen, optionCount}
-use Rattle.tree.specs.Lookup.{foundOf, FieldsAre}
-use Rattle.tree.specs.Steps.{numbersOf}
+use Rattle.tree.specs.Lookup.{foundOf, FieldsAre, numbersOf}
 use Rattle.tree.proofs.FoundLaws.{found-at, found-none, if-some}
 use Rattle.tree.proofs.NumberLaws.{half-behind}
 use Rattle.tree.proofs.FieldLaws.{property-at, name-place}

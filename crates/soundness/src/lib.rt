@@ -22,8 +22,7 @@ ghost use lib.ListN.{length, getD, drop};
 ghost use Rattle.protocol.specs.Tree.{liveSound};
 ghost use Rattle.tree.specs.Form.{nodeSize, propertySize, propertiesStart};
 ghost use Rattle.tree.specs.Seen.{nodeCount, propertyCount};
-ghost use Rattle.tree.specs.Lookup.{foundOf};
-ghost use Rattle.tree.specs.Steps.{numbersOf};
+ghost use Rattle.tree.specs.Lookup.{foundOf, numbersOf};
 ghost use Rattle.soundness.specs.Sound.{isTree};
 ghost use Rattle.soundness.specs.Check.{nodeEnd, propertyEnd, recordsEnd, kindFits, fieldsFit, countsFit};
 

@@ -1,19 +1,23 @@
 -- Text laid as far as there is room: a number digit by digit, bytes told one after the other, and a line.
 -- Assumes nothing.
-use Prim.Native.Nat.{ℕ, _+_, _/_, _%_, _<_, _≤_, min}
+use Prim.Native.Nat.{ℕ, _+_, _-_, _/_, _%_, _^_, _<_, _≤_, min}
 use native.Mathlib.Omega.{arith}
 use native.Mathlib.Numerals.{add-one}
 use native.Mathlib.Nat.{mod-eq-of-lt}
 use mathlib.Core.Path.{_≡_, refl, sym, ap, _∙_}
+use mathlib.Core.Bool.{Bool, true, false, not}
 use mathlib.Core.List.{List, [], _∷_, _++_, append-assoc, append-nil}
-use borrow.Author.Tests.{lt-ltb, le-ltb}
+use borrow.Author.Tests.{lt-ltb, le-ltb, not-true, not-false}
 use lib.ListN.{length, take, drop, getD, length-take}
 use lib.Seq.{take-suc, take-all}
+use Rattle.protocol.specs.Numbers.{wordEnd}
 use Rattle.protocol.specs.Buffer.{farthest, Laid}
 use Rattle.protocol.specs.Text.{each, digit, decimal, dotted, dottedOn, hexDigit, hexByte, hex, line}
+use Rattle.protocol.specs.Signed.{numberOf, numeral}
 use Rattle.protocol.proofs.LayLaws.{laid-same, laid-nil, laid-as, laid-join}
 use Rattle.protocol.proofs.WalkLaws.{each-append}
 use Rattle.protocol.proofs.DecimalLaws.{decimal-small, decimal-more}
+use Rattle.protocol.proofs.SignedLaws.{plain-numeral, low-numeral, high-numeral}
 
 -- A number of one digit, and a digit behind those of a tenth.
 pub laid-small : {at r n : ℕ} {old new : List ℕ} → n < 10 → Laid at (digit (n % 10) ∷ []) old r new → Laid at (decimal n) old r new
@@ -22,6 +26,18 @@ laid-small {n = n} h p = laid-as (ap (λ d. digit d ∷ []) (mod-eq-of-lt h) ∙
 pub laid-more : {at r r′ n : ℕ} {old mid new : List ℕ} → length old < farthest → 10 ≤ n
     → Laid at (decimal (n / 10)) old r mid → Laid r (digit (n % 10) ∷ []) mid r′ new → Laid at (decimal n) old r′ new
 laid-more {n = n} h k p q = laid-as (sym (decimal-more n k)) (laid-join h p q)
+
+-- A word, signed or not: with no sign, and with a minus where it is below zero.
+module _ (s : Bool) (w : ℕ) {at : ℕ} {old : List ℕ} where
+  pub laid-plain : {r : ℕ} {new : List ℕ} → not s ≡ true → Laid at (decimal w) old r new → Laid at (numeral (numberOf s w)) old r new
+  laid-plain h p = laid-as (sym (plain-numeral s w (not-true s h))) p
+
+  pub laid-low : {r : ℕ} {new : List ℕ} → w < 2 ^ 31 → Laid at (decimal w) old r new → Laid at (numeral (numberOf s w)) old r new
+  laid-low h p = laid-as (sym (low-numeral s w h)) p
+
+  pub laid-high : {r r′ m : ℕ} {mid new : List ℕ} → length old < farthest → not s ≡ false → 2 ^ 31 ≤ w → m ≡ wordEnd - w
+      → Laid at (45 ∷ []) old r mid → Laid r (decimal m) mid r′ new → Laid at (numeral (numberOf s w)) old r′ new
+  laid-high l h k e p q = laid-as (ap (λ n. 45 ∷ decimal n) e ∙ sym (high-numeral s w (not-false s h) k)) (laid-join l p q)
 
 -- The first i of some bytes told.
 pub record Telling (text : List ℕ → List ℕ) (bs old : List ℕ) (at : ℕ) (out : List ℕ) (next i : ℕ) : Type 0 where

@@ -1,0 +1,2 @@
+-- What reading text hands back.
+pub mod Read

@@ -1,7 +1,8 @@
-// Text put into a lent buffer: bytes, numbers, paths and lines. Every call writes as far as there is room, from a place on, and
-// returns the place behind all that it had to write: with no room at all it only counts.
+// Text put into a lent buffer: bytes, numbers, paths and lines; and numbers read. Every call that puts writes as far as there is
+// room, from a place on, and returns the place behind all that it had to write: with no room at all it only counts.
 pub mod line;
 pub mod number;
+pub mod read;
 
 use frame::buffer;
 ghost use mathlib.Core.Path.{_≡_};

@@ -2,6 +2,7 @@
 use super::number;
 ghost use mathlib.Core.List.{[], _∷_, _++_};
 ghost use Rattle.protocol.specs.Buffer.{Laid};
+ghost use Rattle.protocol.specs.Signed.{numberOf, numeral};
 ghost use Rattle.protocol.specs.Text.{hex, decimal, dotted, line};
 
 // What stands before the value.
@@ -27,6 +28,15 @@ pub fn put_number(key: &[u8], n: u32, out: &mut [u8], at: usize) -> usize
 {
     let named = put_key(key, out, at);
     let told = number::put_decimal(n, out, named);
+    super::put_all(b"\n", out, told)
+}
+
+// A word in decimal, signed or not.
+pub fn put_word(key: &[u8], signed: bool, w: u32, out: &mut [u8], at: usize) -> usize
+    ensures { λ r. ⌜ Laid at (line (now (key .entry)) (numeral (numberOf signed w))) (now (out .entry)) r (now (out .exit)) ⌝ }
+{
+    let named = put_key(key, out, at);
+    let told = number::put_word(signed, w, out, named);
     super::put_all(b"\n", out, told)
 }
 

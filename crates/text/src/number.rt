@@ -2,6 +2,7 @@
 ghost use mathlib.Core.Path.{_≡_};
 ghost use Prim.Native.Nat.{_<_};
 ghost use Rattle.protocol.specs.Buffer.{Laid};
+ghost use Rattle.protocol.specs.Signed.{numberOf, numeral};
 ghost use Rattle.protocol.specs.Text.{hexDigit, hexByte, hex, decimal, dotted};
 
 // A number in decimal, with no leading zero.
@@ -14,6 +15,20 @@ pub fn put_decimal(n: u32, out: &mut [u8], at: usize) -> usize
     }
     let next = put_decimal(n / 10, out, at);
     super::put_all(&last, out, next)
+}
+
+// A word in decimal, signed or not, with a minus only where it is below zero.
+pub fn put_word(signed: bool, w: u32, out: &mut [u8], at: usize) -> usize
+    ensures { λ r. ⌜ Laid at (numeral (numberOf signed w)) (now (out .entry)) r (now (out .exit)) ⌝ }
+{
+    if !signed {
+        return put_decimal(w, out, at);
+    }
+    if w < 2147483648 {
+        return put_decimal(w, out, at);
+    }
+    let next = super::put_all(b"-", out, at);
+    put_decimal(u32::MAX - w + 1, out, next)
 }
 
 // A path, dotted.

@@ -8,17 +8,19 @@ use mathlib.Core.Path.{_≡_, refl, sym, ap, ap₂, subst, _∙_}
 use mathlib.Core.Bool.{Bool, true, false, cond}
 use mathlib.Core.List.{List, [], _++_, append-nil}
 use borrow.Author.Tests.{ltb-true, ltb-false, eqb-true, eqb-false, lt-ltb, le-ltb}
-use lib.ListN.{length, getD, take, drop, set, replicate, length-set, length-drop, drop-of-length-le, List·getD-eq-default}
+use lib.ListN.{length, getD, take, drop, set, replicate, length-set, length-drop, take-append-drop, drop-of-length-le, List·getD-eq-default}
 use lib.Seq.{getD-drop, drop-drop, drop-length, length-take-le, getD-set-same, getD-set-other}
 use lib.Dec.{eqb, ltb}
 use Rattle.protocol.specs.Numbers.{enumeration}
 use Rattle.protocol.specs.Bytes.{Bytes, text, texts}
 use Rattle.protocol.specs.Buffer.{Put}
 use Rattle.protocol.specs.Request.{beforeZero}
+use Rattle.protocol.specs.Text.{begins}
 use Rattle.protocol.specs.Tree.{Node, Property, Tree, nodeIn, propertyIn}
 use Rattle.protocol.specs.Answer.{recordTexts}
 use Rattle.protocol.proofs.BufferLaws.{part-lent}
 use Rattle.protocol.proofs.RequestLaws.{zero-within}
+use Rattle.protocol.proofs.LoadLaws.{begins-front}
 use Rattle.tree.specs.declared.part.Part.{Part}
 use Rattle.tree.specs.declared.record.Fields.{Fields}
 use Rattle.tree.specs.Form.{nodeSize, propertySize, propertiesStart}
@@ -318,3 +320,41 @@ module _ (bs : List ℕ) (place : ℕ) {r : Part} where
       ∙ ap (λ n. propertySeen bs (drop (n + place * propertySize) bs) .label) f
       ∙ sym (ap (λ x. x .label) (property-at bs place h)))
       p
+
+-- Where a label begins, test by test; and that it stands there.
+module _ (bs : List ℕ) (place : ℕ) where
+  pub start-past : propertyCount bs ≤ place → (0 ≡ labelStart bs place) × (0 ≤ length bs)
+  unfolding labelStart
+  start-past h = (sym (rw (le-ltb place (propertyCount bs) h)), omega arith)
+
+  module _ {start from : ℕ} (h : place < propertyCount bs) (f : start ≡ propertiesStart (nodeCount bs)) (e : from ≡ halfAt (start + place * propertySize + 14) bs) where
+    start-is : labelStart bs place ≡ textStart bs from
+    unfolding labelStart
+    start-is = rw (lt-ltb place (propertyCount bs) h) (ap (textStart bs) (sym (e ∙ ap (λ n. halfAt (n + place * propertySize + 14) bs) f)))
+
+    pub start-none : length bs < from → (0 ≡ labelStart bs place) × (0 ≤ length bs)
+    start-none l = (sym (start-is ∙ rw (lt-ltb (length bs) from l)), omega arith)
+
+    pub start-at : from ≤ length bs → (from ≡ labelStart bs place) × (from ≤ length bs)
+    start-at l = (sym (start-is ∙ rw (le-ltb (length bs) from l)), l)
+
+  part-front : {s : List ℕ} {r : Part} → PartIs (labelStart bs place) s bs r → begins s (drop (labelStart bs place) bs) ≡ true
+  part-front {s} {r} p =
+      let xs : List ℕ = drop (labelStart bs place) bs in
+      let m : ℕ = r .end - r .start in
+      let is : take m xs ≡ s = ap (λ i. take m (drop i bs)) (sym (p .starts)) ∙ p .is in
+      ap₂ begins (sym is) (sym (take-append-drop m xs)) ∙ begins-front (take m xs) (drop m xs)
+
+  pub label-front : begins (propertyIn (seen bs) place .label) (drop (labelStart bs place) bs) ≡ true
+  label-front = go (ltb place (propertyCount bs)) refl (ltb (length bs) from) refl
+    where
+      from : ℕ
+      from = halfAt (propertiesStart (nodeCount bs) + place * propertySize + 14) bs
+
+      go : (a : Bool) → ltb place (propertyCount bs) ≡ a → (b : Bool) → ltb (length bs) from ≡ b
+          → begins (propertyIn (seen bs) place .label) (drop (labelStart bs place) bs) ≡ true
+      go false e b f = part-front (label-past bs place (ltb-false place (propertyCount bs) e))
+      go true e true f =
+          part-front (label-part bs place (ltb-true place (propertyCount bs) e) refl refl (part-past bs from (ltb-true (length bs) from f)))
+      go true e false f =
+          part-front (label-part bs place (ltb-true place (propertyCount bs) e) refl refl (part-at bs from (ltb-false (length bs) from f) refl))

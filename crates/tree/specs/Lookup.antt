@@ -2,7 +2,7 @@
 use Prim.Native.Nat.{ℕ, _+_, _-_, _*_, _≤_}
 use mathlib.Core.Path.{_≡_}
 use mathlib.Core.Bool.{cond}
-use mathlib.Core.List.{List}
+use mathlib.Core.List.{List, []}
 use mathlib.Core.Option.{Option, none, some}
 use lib.ListN.{length, take, drop}
 use lib.Dec.{ltb}
@@ -27,6 +27,20 @@ pub record FieldsAre (p : Property) (r : Fields) : Type 0 where
   pub max : r .max ≡ p .max
   pub attribute : r .attribute ≡ p .attribute
   pub format : r .format ≡ p .format
+
+-- A property of these numbers, with no texts.
+abbrev pub numbersOf : Fields → Property
+numbersOf f =
+    record {
+      node = f .node;
+      kind = f .kind;
+      min = f .min;
+      max = f .max;
+      attribute = f .attribute;
+      format = f .format;
+      label = [];
+      options = [];
+    }
 
 -- Where a text begins that is said to lie at a place: there, or at the front where the bytes have ended before it.
 abbrev pub textStart : List ℕ → ℕ → ℕ

@@ -3,6 +3,7 @@
 pub mod bench;
 pub mod bytes;
 pub mod part;
+pub mod range;
 pub mod record;
 mod texts;
 

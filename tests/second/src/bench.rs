@@ -1,4 +1,4 @@
-//! The bench tree, and the largest one.
+//! The bench tree, the largest one, and the one with the longest sheet.
 use crate::tree::{Node, Property, Tree};
 
 fn probe(label: &'static [u8]) -> Property<'static> {
@@ -52,4 +52,43 @@ pub fn largest() -> Tree<'static> {
         nodes: (0..64).map(|place| Node { parent: parent(place), name: LONG_NAME }).collect(),
         properties: (0..128).map(property).collect(),
     }
+}
+
+/// 23 characters each, which differ in the last two alone, in no order.
+const LONG_LABELS: [[u8; 23]; 128] = {
+    let mut labels = [[b'L'; 23]; 128];
+    let mut place = 0;
+    while place < 128 {
+        let turn = (37 * place % 128) as u8;
+        labels[place][21] = b'A' + turn / 16;
+        labels[place][22] = b'A' + turn % 16;
+        place += 1;
+    }
+    labels
+};
+/// A unit of 159 characters.
+const LONG_UNIT: [u8; 160] = {
+    let mut unit = [b'u'; 160];
+    unit[159] = 0;
+    unit
+};
+
+/// The nodes of the largest tree, and 128 signed settings without a range, all texts as long as they may be: 27330 bytes.
+pub fn settings() -> Tree<'static> {
+    let setting = |label: &'static [u8; 23]| Property {
+        node: 63,
+        kind: 1,
+        min: 0,
+        max: 0,
+        attribute: 0x0003,
+        format: 0x8000,
+        label,
+        texts: &LONG_UNIT,
+    };
+    Tree { nodes: largest().nodes, properties: LONG_LABELS.iter().map(setting).collect() }
+}
+
+/// Cells of these settings, each with the number that is longest on a sheet, -2147483648.
+pub fn settings_cells() -> Vec<u8> {
+    [0x80, 0, 0, 0, 0].repeat(128)
 }

@@ -18,7 +18,7 @@ fn cell(cells: &[u8], place: usize) -> Option<&[u8]> {
     cells.chunks_exact(CELL_SIZE).nth(place)
 }
 
-fn word(cells: &[u8], place: usize) -> u32 {
+pub fn word(cells: &[u8], place: usize) -> u32 {
     cell(cells, place).map_or(0, |cell| u32::from_be_bytes([cell[0], cell[1], cell[2], cell[3]]))
 }
 

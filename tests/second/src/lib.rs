@@ -6,6 +6,7 @@ pub mod frame;
 pub mod listing;
 pub mod request;
 pub mod serve;
+pub mod sheet;
 pub mod stream;
 pub mod tree;
 pub mod writer;
@@ -24,12 +25,16 @@ pub const BAD_PARAMETER: u8 = 11;
 pub const NO_READING: u8 = 12;
 pub const NOT_SAVED: u8 = 13;
 pub const NOT_LIVE: u8 = 14;
+pub const BAD_SHEET: u8 = 17;
+pub const OUT_OF_RANGE: u8 = 18;
 pub const NO_FRAME: u8 = 255;
 pub const NO_ACTION: u8 = 255;
 
 pub const ROOM_DATA: usize = 256;
 pub const ROOM_UDP: usize = 260;
 pub const ROOM_SERIAL: usize = 520;
+/// Room for every sheet: 128 lines of a label of 23 characters, `=`, 11 characters of a number, and 0Ah.
+pub const SHEET_ROOM: usize = 128 * 36;
 /// The most bytes of data, and of content (address, data, checksum).
 pub const MOST_DATA: usize = 256;
 pub const MOST_CONTENT: usize = 258;

@@ -18,6 +18,12 @@ extern "C" {
         tree: *const u8, tree_len: usize, cells: *const u8, cells_len: usize, place: usize, word: *mut u32,
     ) -> u8;
     pub fn pq_list(tree: *const u8, tree_len: usize, out: *mut u8, out_len: usize, len: *mut usize) -> u8;
+    pub fn pq_write_sheet(
+        tree: *const u8, tree_len: usize, cells: *const u8, cells_len: usize, out: *mut u8, out_len: usize, len: *mut usize,
+    ) -> u8;
+    pub fn pq_read_sheet(
+        tree: *const u8, tree_len: usize, cells: *mut u8, cells_len: usize, sheet: *const u8, sheet_len: usize,
+    ) -> u8;
     pub fn pq_serve_data(
         tree: *const u8, tree_len: usize, cells: *mut u8, cells_len: usize, host: u8, request: *const u8, request_len: usize,
         out: *mut u8, out_len: usize, len: *mut usize, action: *mut u8,

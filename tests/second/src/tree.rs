@@ -48,6 +48,15 @@ impl Property<'_> {
         self.has(WRITE) && !self.has(READ)
     }
 
+    pub fn is_setting(&self) -> bool {
+        self.has(READ) && self.has(WRITE)
+    }
+
+    /// Whether its word is a signed number: an enumerated one never is.
+    pub fn is_signed(&self) -> bool {
+        self.kind == 1 && self.format & SIGNED != 0
+    }
+
     /// Whether one number is at most another, signed where the format says so.
     fn ordered(&self, low: u32, high: u32) -> bool {
         if self.format & SIGNED != 0 {

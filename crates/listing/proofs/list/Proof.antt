@@ -7,7 +7,7 @@ use borrow.Author.Tests.{not-true, not-false}
 use lib.ListN.{length}
 use Rattle.protocol.specs.Buffer.{farthest}
 use Rattle.soundness.specs.Sound.{isTree}
-use Rattle.listing.proofs.ListsLaws.{lists-unsound, fits-any, lists-short, fits-counted, lists-counted}
+use Rattle.listing.proofs.ListsLaws.{lists-unsound, fits-any, lists-short, listing-fits, lists-counted}
 use borrow.Author.Needs.{needs}
 use Rattle.listing.proofs.list.Statement.{statement}
 use Rattle.listing.proofs.list.Tie as tie
@@ -65,7 +65,7 @@ put-listing-requires-2 c κs =
     let sized = other .before .before .before in
     let lent = sized .before .before .before in
     let start = lent .before .before .before .before in
-    (sound lent, fits-counted (start .args .tree .now) (start .args .out .now) (sound lent) (room start) (sized .walk-tree .ensures) (other .if3 .left))
+    (sound lent, listing-fits (start .args .tree .now) (start .args .out .now) (sound lent) (room start) (sized .walk-tree .ensures) (other .if3 .left))
 
 same-length-3 : tie.Need-same-length-3
 same-length-3 c = search needs

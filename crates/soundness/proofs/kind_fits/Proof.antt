@@ -4,7 +4,7 @@ use borrow.Author.Tests.{eq-eqb, ne-eqb}
 use borrow.Author.Needs.{needs}
 use Rattle.protocol.specs.Numbers.{standard, enumeration}
 use Rattle.protocol.specs.Bytes.{atMost}
-use Rattle.tree.specs.Steps.{numbersOf}
+use Rattle.tree.specs.Lookup.{numbersOf}
 use Rattle.soundness.proofs.StepLaws.{kind-by}
 use Rattle.soundness.proofs.kind_fits.Statement.{statement}
 use Rattle.soundness.proofs.kind_fits.Tie as tie

@@ -2,7 +2,7 @@
 use mathlib.Core.Path.{refl, sym, _∙_}
 use borrow.Author.Tests.{not-true, not-false}
 use borrow.Author.Needs.{needs}
-use Rattle.tree.specs.Steps.{numbersOf}
+use Rattle.tree.specs.Lookup.{numbersOf}
 use Rattle.soundness.proofs.StepLaws.{live-by}
 use Rattle.soundness.proofs.live_fits.Statement.{statement}
 use Rattle.soundness.proofs.live_fits.Tie as tie

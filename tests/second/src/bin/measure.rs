@@ -9,7 +9,7 @@ mod library;
 
 use library::*;
 use second::tree::Tree;
-use second::{bench, cells, frame, listing, request, serve, stream};
+use second::{bench, cells, frame, listing, request, serve, sheet, stream};
 use std::hint::black_box;
 use std::time::{Duration, Instant};
 
@@ -37,6 +37,8 @@ enum Work {
     Check { tree: Vec<u8>, cells: Vec<u8> },
     Reading { tree: Vec<u8>, cells: Vec<u8>, place: usize },
     List { tree: Vec<u8> },
+    WriteSheet { tree: Vec<u8>, cells: Vec<u8> },
+    ReadSheet { tree: Vec<u8>, cells: Vec<u8>, sheet: Vec<u8> },
 }
 
 /// Buffers that are lent over and over.
@@ -96,6 +98,16 @@ fn request_data(op: u8, path: &[u8], index: u8, value: u32) -> Vec<u8> {
     data
 }
 
+/// A tree's sheet, written and read.
+fn sheet_rows(rows: &mut Vec<Row>, name: &str, tree: Vec<u8>, cells: Vec<u8>) {
+    let mut sheet = vec![0; second::SHEET_ROOM];
+    let len = sheet::write(&tree, &cells, &mut sheet).len;
+    sheet.truncate(len);
+    let written = Work::WriteSheet { tree: tree.clone(), cells: cells.clone() };
+    rows.push(row(&format!("write_sheet-{name}"), 1, written));
+    rows.push(row(&format!("read_sheet-{name}"), 1, Work::ReadSheet { tree, cells, sheet }));
+}
+
 /// Each op on a tree, the firmware's reading of the same property, the tree's listing and its check.
 fn tree_rows(rows: &mut Vec<Row>, name: &str, tree: Vec<u8>, cells: Vec<u8>, path: &[u8], index: u8) {
     for op in 0..=5 {
@@ -124,6 +136,10 @@ fn rows() -> Vec<Row> {
     ];
     tree_rows(&mut rows, "bench", bench::tree().write(), bench::CELLS.to_vec(), &[1, 2], 1);
     tree_rows(&mut rows, "largest", bench::largest().write(), vec![0; 640], &[1; 16], 2);
+    sheet_rows(&mut rows, "bench", bench::tree().write(), bench::CELLS.to_vec());
+    let (tree, cells) = (bench::settings().write(), bench::settings_cells());
+    sheet_rows(&mut rows, "settings", tree.clone(), cells.clone());
+    rows.push(row("check-settings", 1, Work::Check { tree, cells }));
     rows
 }
 
@@ -163,6 +179,14 @@ fn library_once(work: &mut Work, desk: &mut Desk) -> u8 {
             Work::List { tree } => {
                 pq_list(tree.as_ptr(), tree.len(), desk.page.as_mut_ptr(), desk.page.len(), &mut long)
             }
+            Work::WriteSheet { tree, cells } => {
+                let (page, page_len) = (desk.page.as_mut_ptr(), desk.page.len());
+                pq_write_sheet(tree.as_ptr(), tree.len(), cells.as_ptr(), cells.len(), page, page_len, &mut long)
+            }
+            Work::ReadSheet { tree, cells, sheet } => {
+                let (lent, len) = (cells.as_mut_ptr(), cells.len());
+                pq_read_sheet(tree.as_ptr(), tree.len(), lent, len, sheet.as_ptr(), sheet.len())
+            }
         }
     }
 }
@@ -183,6 +207,8 @@ fn second_once(work: &mut Work, desk: &mut Desk) -> u8 {
         Work::Check { tree, cells } => cells::check(tree, cells),
         Work::Reading { tree, cells, place } => number(black_box(cells::reading(tree, cells, *place))),
         Work::List { tree } => black_box(listing::list(tree, &mut desk.page)).number,
+        Work::WriteSheet { tree, cells } => black_box(sheet::write(tree, cells, &mut desk.page)).number,
+        Work::ReadSheet { tree, cells, sheet } => black_box(sheet::read(tree, cells, sheet)),
     }
 }
 
@@ -245,14 +271,14 @@ fn best(row: &mut Row) -> [f64; 2] {
     best
 }
 
-/// Both must come to the same number, and to 0 where the row means a good request, reading or listing.
+/// Both must come to the same number, and to 0, but for bytes fed, which end no frame, and frames whose data is no request.
 fn agree(row: &mut Row) -> bool {
     let ours = library_once(&mut row.work, &mut Desk::new());
     if let Work::Feed { at, .. } = &mut row.work {
         *at = 0;
     }
-    let good = matches!(row.work, Work::Serve { .. } | Work::Reading { .. } | Work::ReadFrame { .. } | Work::List { .. });
-    ours == second_once(&mut row.work, &mut Desk::new()) && (ours == 0 || !good)
+    let other = matches!(row.work, Work::Feed { .. } | Work::ReadSerial { .. });
+    ours == second_once(&mut row.work, &mut Desk::new()) && (ours == 0 || other)
 }
 
 fn main() {

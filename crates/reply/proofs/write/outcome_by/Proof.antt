@@ -5,7 +5,7 @@ use borrow.Author.Needs.{needs}
 use borrow.Author.Tests.{not-true, not-false}
 use Rattle.protocol.specs.Tree.{canRead, canWrite}
 use Rattle.protocol.specs.Answer.{saved, outOfRange, outcome}
-use Rattle.tree.specs.Steps.{numbersOf}
+use Rattle.tree.specs.Lookup.{numbersOf}
 use Rattle.reply.proofs.WriteLaws.{outcome-by}
 use Rattle.reply.proofs.write.outcome_by.Statement.{statement}
 use Rattle.reply.proofs.write.outcome_by.Tie as tie

@@ -4,7 +4,8 @@ use crate::library::*;
 use second::listing::Listed;
 use second::request::Request;
 use second::serve::Served;
-use second::{cells, frame, listing, request, serve, stream, tree};
+use second::sheet::Written;
+use second::{cells, frame, listing, request, serve, sheet, stream, tree};
 
 /// What numbers that are handed back hold before the call: a word and the fields of a request hold it still after a refusal.
 const UNSET: u64 = 0xEEEE_EEEE_EEEE_EEEE;
@@ -62,6 +63,7 @@ unsafe fn call(i: &Input, lent: &mut Lent, back: &mut Back) -> (u8, [u64; 5]) {
         Call::ReadFrame | Call::DatagramData => call_data(i, lent, back),
         Call::ReadSerial | Call::ReadUdp => call_read(i, lent, back),
         Call::List => call_list(lent, back),
+        Call::WriteSheet | Call::ReadSheet => call_sheet(i, lent, back),
         _ => call_cells(i, lent, back),
     }
 }
@@ -104,6 +106,18 @@ unsafe fn call_list(lent: &mut Lent, back: &mut Back) -> (u8, [u64; 5]) {
     let (out, out_len) = lend(&mut lent.out);
     let len = &mut back.long[0];
     (pq_list(tree, tree_len, out, out_len, len), one(*len as u64))
+}
+
+unsafe fn call_sheet(i: &Input, lent: &mut Lent, back: &mut Back) -> (u8, [u64; 5]) {
+    let (tree, tree_len) = lend(&mut lent.tree);
+    let (cells, cells_len) = lend(&mut lent.cells);
+    let (bytes, bytes_len) = lend(&mut lent.bytes);
+    let (out, out_len) = lend(&mut lent.out);
+    let len = &mut back.long[0];
+    if i.call == Call::WriteSheet {
+        return (pq_write_sheet(tree, tree_len, cells, cells_len, out, out_len, len), one(*len as u64));
+    }
+    (pq_read_sheet(tree, tree_len, cells, cells_len, bytes, bytes_len), one(0))
 }
 
 unsafe fn call_serve(i: &Input, lent: &mut Lent, back: &mut Back) -> (u8, [u64; 5]) {
@@ -193,6 +207,8 @@ fn answer(i: &Input, lent: &mut Lent) -> (u8, [u64; 5]) {
         }
         Call::WriteUdp => written(request::write_udp(i.op, &lent.bytes, i.index, i.value, &mut lent.out)),
         Call::List => listed(listing::list(&lent.tree, &mut lent.out)),
+        Call::WriteSheet => told(sheet::write(&lent.tree, &lent.cells, &mut lent.out)),
+        Call::ReadSheet => (sheet::read(&lent.tree, &mut lent.cells, &lent.bytes), one(0)),
         _ => answer_cells(i, lent),
     }
 }
@@ -236,6 +252,10 @@ fn served(served: Served) -> (u8, [u64; 5]) {
 
 fn listed(listed: Listed) -> (u8, [u64; 5]) {
     (listed.number, one(listed.len as u64))
+}
+
+fn told(written: Written) -> (u8, [u64; 5]) {
+    (written.number, one(written.len as u64))
 }
 
 fn written(result: Result<usize, u8>) -> (u8, [u64; 5]) {

@@ -1,5 +1,5 @@
-//! The cases of document 01 and of its readings, each with the bytes the paper gives; of document 02, the bench tree's listing and
-//! stray 10h.
+//! The cases of document 01 and of its readings, each with the bytes the paper gives; of document 02, the bench tree's listing, its
+//! sheet, and stray 10h.
 use crate::input::{Call, Input};
 use crate::random::Random;
 use crate::strays::at_every_cut;
@@ -89,6 +89,29 @@ const LISTING: &[u8] = b"\
     path=1.2\nindex=2\nlabel=Rate\ntype=2\n\
     path=1.2\nindex=3\nlabel=Restart\ntype=1\n";
 
+/// Sheets read over the bench tree's cells, the number, and what Average and Rate hold then.
+const SHEETS: [(&[u8], u8, [u8; 2]); 19] = [
+    (b"Average=4\nRate=0\n", 0, [4, 0]),
+    (b"Average=64\nRate=1\n", 0, [64, 1]),
+    (b"Average=1\nRate=1\n", 0, [1, 1]),
+    (b"Average=65\nRate=1\n", 18, [4, 0]),
+    (b"Average=0\nRate=1\n", 18, [4, 0]),
+    (b"Average=5\nRate=2\n", 18, [4, 0]),
+    (b"Average=4294967301\nRate=1\n", 18, [4, 0]),
+    (b"Average=5\nRate=4294967296\n", 18, [4, 0]),
+    (b"Average=65\nRate=-0\n", 17, [4, 0]),
+    (b"Average=-5\nRate=1\n", 17, [4, 0]),
+    (b"Average=05\nRate=1\n", 17, [4, 0]),
+    (b"Average=+5\nRate=1\n", 17, [4, 0]),
+    (b"Average=\nRate=1\n", 17, [4, 0]),
+    (b"Rate=1\nAverage=5\n", 17, [4, 0]),
+    (b"Average=5\nRate=1", 17, [4, 0]),
+    (b"Average=5\n", 17, [4, 0]),
+    (b"Average=5\nRate=1\nRestart=0\n", 17, [4, 0]),
+    (b"Probe 1=2100\nAverage=5\nRate=1\n", 17, [4, 0]),
+    (b"", 17, [4, 0]),
+];
+
 pub fn run(random: &Random, tally: &mut Tally) {
     for (stream, handed) in STREAMS {
         let stream = bytes(&stream.replace('*', &"00".repeat(258)));
@@ -97,6 +120,8 @@ pub fn run(random: &Random, tally: &mut Tally) {
     }
     tally.compare(&Input::of(Call::StateSize));
     list_all(tally);
+    write_sheets(tally);
+    read_sheets(tally);
     serve_all(tally);
     read_all(tally);
     find_all(tally);
@@ -128,6 +153,33 @@ fn list_all(tally: &mut Tally) {
         let seen = tally.compare(&input);
         let same = seen.number == number && seen.fields[0] == told as u64;
         tally.expect(same && (number == 0) == (seen.lent.out[..] == *LISTING), "the listing is the paper's", &input);
+    }
+}
+
+/// With the room it takes and a byte less; Average out of range; broken cells.
+fn write_sheets(tally: &mut Tally) {
+    let (tree, sheet) = (second::bench::tree().write(), SHEETS[0].0);
+    let (cells, len) = (second::bench::CELLS, sheet.len());
+    let mut outside = cells;
+    outside[13] = 65;
+    for (cells, room, number, told) in
+        [(&cells[..], len, 0, len), (&cells, len - 1, 8, len), (&outside, len, 18, 0), (&cells[1..], len, 1, 0)]
+    {
+        let input = Input { tree: &tree, cells, room, ..Input::of(Call::WriteSheet) };
+        let seen = tally.compare(&input);
+        let same = seen.number == number && seen.fields[0] == told as u64;
+        tally.expect(same && (number == 0) == (seen.lent.out[..] == *sheet), "the sheet is the paper's", &input);
+    }
+}
+
+fn read_sheets(tally: &mut Tally) {
+    let tree = second::bench::tree().write();
+    for (sheet, number, [average, rate]) in SHEETS {
+        let mut cells = second::bench::CELLS;
+        let input = Input { tree: &tree, cells: &cells.clone(), bytes: sheet, ..Input::of(Call::ReadSheet) };
+        (cells[13], cells[18]) = (average, rate);
+        let seen = tally.compare(&input);
+        tally.expect(seen.number == number && *seen.lent.cells == cells, "the sheet is read as the paper says", &input);
     }
 }
 

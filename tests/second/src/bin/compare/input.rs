@@ -14,6 +14,8 @@ pub enum Call {
     Post,
     Reading,
     List,
+    WriteSheet,
+    ReadSheet,
     ServeData,
     ServeSerial,
     ServeUdp,
@@ -30,7 +32,7 @@ pub enum Call {
 use Call::*;
 
 /// Every call with its name and the numbers that it must have been seen to return.
-pub const CALLS: [(Call, &str, &[u8]); 22] = [
+pub const CALLS: [(Call, &str, &[u8]); 24] = [
     (StateSize, "pq_state_size", &[0]),
     (BeginStream, "pq_begin_stream", &[0, 1]),
     (Feed, "pq_feed", &[0, 1, 3, 4, 5, 6, 7, 8, 255]),
@@ -42,6 +44,8 @@ pub const CALLS: [(Call, &str, &[u8]); 22] = [
     (Post, "pq_post", &[0, 1, 14]),
     (Reading, "pq_reading", &[0, 1, 11, 12]),
     (List, "pq_list", &[0, 1, 8]),
+    (WriteSheet, "pq_write_sheet", &[0, 1, 8, 17, 18]),
+    (ReadSheet, "pq_read_sheet", &[0, 1, 17, 18]),
     (ServeData, "pq_serve_data", &[0, 1, 4, 5, 8, 9, 10, 11, 12, 13]),
     (ServeSerial, "pq_serve_serial", &[0, 1, 2, 3, 4, 5, 6, 7, 8, 9, 10, 11, 12, 13]),
     (ServeUdp, "pq_serve_udp", &[0, 1, 2, 4, 5, 8, 9, 10, 11, 12, 13]),

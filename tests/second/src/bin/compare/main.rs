@@ -9,8 +9,11 @@ mod largest;
 #[path = "../../library.rs"]
 mod library;
 mod listings;
+mod mistakes;
 mod random;
 mod requests;
+mod sheet_sweep;
+mod sheets;
 mod strays;
 mod streams;
 mod sweep;
@@ -35,9 +38,11 @@ fn main() {
         sweep::run(&mut tally);
         largest::run(&random, &mut tally);
         listings::run(&mut tally);
+        sheet_sweep::run(&random, &mut tally);
     }
     for round in 0..(ROUNDS * times) as usize {
         trees::run(&random, &mut tally, round);
+        sheets::run(&random, &mut tally, round);
         requests::run(&random, &mut tally);
         streams::run(&random, &mut tally);
         strays::run(&random, &mut tally);

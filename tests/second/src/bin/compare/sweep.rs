@@ -2,6 +2,7 @@
 use crate::input::{Call, Input};
 use crate::listings;
 use crate::requests::{content, wrapped};
+use crate::sheets;
 use crate::tally::Tally;
 use second::bench;
 use second::stream::STATE_SIZE;
@@ -55,6 +56,8 @@ fn rooms(tally: &mut Tally, tree: &[u8]) {
         tally.compare(&Input { room, ..whole(&string) });
         listings::list(tally, tree, room);
         listings::list(tally, &tree[1..], room);
+        sheets::write(tally, tree, &bench::CELLS, room);
+        sheets::write(tally, &tree[1..], &bench::CELLS, room);
         for call in [Call::Frame, Call::Datagram, Call::WriteSerial, Call::WriteUdp] {
             tally.compare(&Input { room, bytes: &[1], op: 2, index: 1, address: ADDRESS, ..Input::of(call) });
         }
@@ -132,6 +135,7 @@ fn trees_changed(tally: &mut Tally, tree: &[u8]) {
             tally.compare(&Input { call, ..input });
         }
         listings::near(tally, changed);
+        sheets::near(tally, changed, &bench::CELLS);
         for place in 0..=5 {
             tally.compare(&Input { call: Call::Reading, place, ..input });
         }
@@ -141,6 +145,7 @@ fn trees_changed(tally: &mut Tally, tree: &[u8]) {
     each_change(&bench::CELLS, |cells| {
         tally.compare(&Input { tree, cells, ..Input::of(Call::Check) });
         tally.compare(&Input { tree, cells, ..Input::of(Call::RestoreCells) });
+        sheets::near(tally, tree, cells);
         for place in 0..=5 {
             tally.compare(&Input { tree, cells, place, ..Input::of(Call::Reading) });
         }

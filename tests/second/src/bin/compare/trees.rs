@@ -1,9 +1,10 @@
-//! Trees and cells: checked, listed, posted to, read, restored, and requests served over them.
+//! Trees and cells: checked, listed, posted to, read, restored, their sheets, and requests served over them.
 use crate::draft::{broken, Draft, BREAKS};
 use crate::input::{Call, Input};
 use crate::listings;
 use crate::random::Random;
 use crate::requests::{self, Transport};
+use crate::sheets;
 use crate::tally::Tally;
 
 const SERVED: usize = 120;
@@ -36,6 +37,7 @@ pub fn check(tally: &mut Tally, tree: &[u8], cells: &[u8], numbers: Option<[u8; 
     tally.expect(numbers.is_none_or(|numbers| numbers == seen), "the checks give the numbers meant", &inputs[0]);
     tally.compare(&Input { tree, ..Input::of(Call::CellsSize) });
     listings::near(tally, tree);
+    sheets::near(tally, tree, cells);
 }
 
 fn begin(random: &Random, tally: &mut Tally, tree: &[u8], properties: usize) {

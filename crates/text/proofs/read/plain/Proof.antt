@@ -1,0 +1,57 @@
+-- `text::read::plain` meets its contract. Assumes nothing.
+use native.Mathlib.Omega.{arith}
+use mathlib.Core.Path.{sym, _∙_}
+use borrow.Author.Needs.{needs}
+use borrow.Author.Tests.{not-true, not-false}
+use Rattle.protocol.proofs.SignedLaws.{digits-inside}
+use Rattle.text.proofs.ReadLaws.{told-none, told-plain}
+use Rattle.text.proofs.read.plain.Statement.{statement}
+use Rattle.text.proofs.read.plain.Tie as tie
+
+read-digits-requires : tie.Need-read-digits-requires
+read-digits-requires c κs = search needs
+
+is-numeral-requires : tie.Need-is-numeral-requires
+is-numeral-requires c κs = search needs
+
+nothing-requires : tie.Need-nothing-requires
+nothing-requires c κs = search needs
+
+returns : tie.Need-returns
+returns c =
+    let test = c .before in
+    told-none (c .nothing .ensures) (sym (test .before .is-numeral .ensures) ∙ not-true _ (test .if1 .taken))
+
+highest-requires : tie.Need-highest-requires
+highest-requires c κs = search needs
+
+is-at-most-requires : tie.Need-is-at-most-requires
+is-at-most-requires c κs = search needs
+
+add-t7 : tie.Need-add-t7
+add-t7 c =
+    let read = c .before .before .before .before .before in
+    omega (arith, read .read-digits .ensures .len, digits-inside (read .before .before .args .bs .now))
+
+returns-2 : tie.Need-returns-2
+returns-2 c =
+    let most = c .before in
+    let is = most .before .before in
+    let read = is .before .before in
+    let start = read .before .before in
+    told-plain (start .args .bs .now) (sym (is .before .is-numeral .ensures) ∙ not-false _ (is .if1 .left))
+    (read .read-digits .ensures) (start .args .signed)
+    (most .before .highest .result) (most .before .highest .ensures) (most .is-at-most .ensures)
+
+pub plain-spec : {M : Type 1} → statement M
+plain-spec =
+    tie.close
+    (tie.spec
+    read-digits-requires
+    is-numeral-requires
+    nothing-requires
+    returns
+    highest-requires
+    is-at-most-requires
+    add-t7
+    returns-2)
