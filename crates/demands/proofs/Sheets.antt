@@ -1,29 +1,26 @@
 -- 02, section 3: reading is exact, both round trips hold, and no live word is seen.
 -- Assumes nothing.
-use Prim.Native.Nat.{ℕ, zero, suc, _*_, _<_, _≤_}
+use Prim.Native.Nat.{ℕ, suc, _*_, _<_, _≤_}
 use native.Mathlib.Omega.{arith}
 use mathlib.Core.Path.{_≡_, refl, sym, ap, ap₂, subst, _∙_}
-use mathlib.Core.Bool.{Bool, true, false, cond, _&&_, false≢true}
+use mathlib.Core.Bool.{Bool, true, false, cond, false≢true}
 use mathlib.Core.List.{List, [], _∷_}
 use borrow.Author.Tests.{eq-eqb, ne-eqb, eqb-true, eqb-false, ltb-true, lt-ltb}
-use lib.ListN.{length, getD, take}
+use lib.ListN.{length, take}
 use lib.Dec.{eqb, ltb}
 use Rattle.protocol.specs.Numbers.{done, unsound, noRoom, badSheet, notInRange, wordEnd}
 use Rattle.protocol.specs.Bytes.{Bytes, every}
-use Rattle.protocol.specs.Frame.{Received}
 use Rattle.protocol.specs.Buffer.{over, textNumber}
-use Rattle.protocol.specs.Tree.{Tree, Cell, isLive, propertyIn, cellIn, cellsSound, sound}
-use Rattle.protocol.specs.Answer.{stored}
-use Rattle.protocol.specs.Sheet.{isSetting, settingsOf, isPlain, writable, Clash, marked, twice, sheet, inRanges, Outside, writeRefusal, isSheet, allInRange, areInRange, linesOf, sheetNumber, readRefusal, loaded, load}
+use Rattle.protocol.specs.Tree.{Tree, Cell, propertyIn, cellIn, cellsSound}
+use Rattle.protocol.specs.Sheet.{isSetting, settingsOf, writable, Clash, marked, twice, sheet, inRanges, Outside, writeRefusal, isSheet, allInRange, areInRange, sheetNumber, readRefusal, loaded, load}
 use Rattle.protocol.proofs.TestLaws.{and-left, and-right, and-both, every-at}
 use Rattle.protocol.proofs.SheetLaws.{setting-not-live}
-use Rattle.protocol.proofs.LoadLaws.{Stands, sheet-stands, lines-read, lines-range, sheet-done, settings-longest, sheet-longest, loaded-length, loaded-mark, loaded-other, restores, rewritten, loaded-ranges, loaded-width, sheet-alike, ranges-alike, writable-plain, writable-differ, unwritable, ranges-fail, ranges-hold}
+use Rattle.protocol.proofs.LoadLaws.{sheet-stands, lines-read, lines-range, sheet-done, settings-longest, sheet-longest, loaded-length, loaded-mark, loaded-other, restores, rewritten, loaded-ranges, loaded-width, sheet-alike, ranges-alike, writable-plain, writable-differ, unwritable, ranges-fail, ranges-hold}
 use Rattle.protocol.proofs.FillLaws.{text-refused, text-done, filled, fills-kept, fills-other, fills-less, fills-room}
 use Rattle.tree.specs.Seen.{seen}
-use Rattle.soundness.specs.Sound.{isTree}
 use Rattle.soundness.proofs.FormLaws.{seen-sound}
 use Rattle.cells.specs.Cells.{cellsForm, cellsIn, hasCells}
-use Rattle.cells.specs.Lent.{isLent, Updates}
+use Rattle.cells.specs.Lent.{isLent}
 use Rattle.cells.proofs.CellLaws.{inWidth, cells-in-form, has-form, lent-form}
 use Rattle.sheet.specs.Sheets.{writeNumber, written, loadIn}
 use Rattle.sheet.proofs.WriteLaws.{lent-tree}

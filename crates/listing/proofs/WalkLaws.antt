@@ -10,7 +10,7 @@ use borrow.Table.Elements.{map-app}
 use lib.ListN.{length, getD, drop}
 use Rattle.protocol.specs.Numbers.{maxNodes, maxDepth}
 use Rattle.protocol.specs.Buffer.{farthest, Laid}
-use Rattle.protocol.specs.Tree.{Tree, nodeIn, sound}
+use Rattle.protocol.specs.Tree.{Tree, nodeIn}
 use Rattle.protocol.specs.Text.{each}
 use Rattle.protocol.specs.Listing.{Visit, Item, below, subtree, walk, itemsAt, items, entryOf, entryText, entries, listing}
 use Rattle.protocol.proofs.LayLaws.{laid-as, laid-join, Laying, lay-begins, lay-ends, lay-as, lay-more}

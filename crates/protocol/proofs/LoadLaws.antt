@@ -168,9 +168,6 @@ module _ (p : Property) (w : ℕ) (rest : List ℕ) (h : w < wordEnd) where
   pub setting-read : isLine p setting ≡ true
   setting-read = line-read p (numberOf (takesSign p) w) rest told
 
-  pub setting-size : lineSize p setting ≡ length (settingLine p w)
-  setting-size = line-size p (numberOf (takesSign p) w) rest told
-
   setting-rest : drop (lineSize p setting) setting ≡ rest
   setting-rest = line-rest p (numberOf (takesSign p) w) rest told
 
@@ -258,10 +255,6 @@ module _ (t : Tree) (cs : List Cell) (w : Words cs) where
   pub sheet-done : inRanges t cs ≡ true → sheetNumber t (settingsOf t) (sheet t cs) ≡ done
   unfolding sheetNumber sheet inRanges
   sheet-done h = rw (written-sheet (settingsOf t), written-range (settingsOf t), h)
-
-  pub sheet-out : inRanges t cs ≡ false → sheetNumber t (settingsOf t) (sheet t cs) ≡ notInRange
-  unfolding sheetNumber sheet inRanges
-  sheet-out h = rw (written-sheet (settingsOf t), written-range (settingsOf t), h)
 
 -- Lengths: a line of at most 36 bytes for each setting, of which there are at most 128.
 each-longest : {A B : Type 0} (f : A → List B) (m : ℕ) → ((x : A) → length (f x) ≤ m) → (xs : List A)

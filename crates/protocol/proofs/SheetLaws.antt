@@ -1,13 +1,12 @@
 -- Settings: they are not live, so that each has a number to read.
 -- Assumes nothing.
 use Prim.Native.Nat.{ℕ}
-use mathlib.Core.Path.{_≡_, refl, sym, _∙_}
-use mathlib.Core.Bool.{Bool, true, false, cond, not, _&&_, false≢true}
+use mathlib.Core.Path.{_≡_, refl}
+use mathlib.Core.Bool.{Bool, true, false, not, _&&_, false≢true}
 use mathlib.Core.Option.{some}
 use lib.Dec.{leb, ltb}
 use lib.ListN.{length}
 use Rattle.protocol.specs.Numbers.{maxProperties}
-use Rattle.protocol.specs.Bytes.{every}
 use Rattle.protocol.specs.Tree.{Property, Tree, Cell, canRead, canWrite, isLive, propertyIn, sound, nodesSound, propertiesSound, propertySound, liveSound, widthsSound, readable, reading}
 use Rattle.protocol.specs.Sheet.{isSetting}
 use Rattle.protocol.proofs.TestLaws.{and-left, and-right, every-at, every-weaker}

@@ -4,14 +4,14 @@ use Prim.Native.Nat.{ℕ, _+_, _<_, _≤_}
 use native.Mathlib.Numerals.{add-one}
 use mathlib.Core.Path.{_≡_, refl, sym, ap, ap₂, _∙_}
 use mathlib.Core.Bool.{Bool, true, false, not, _&&_}
-use mathlib.Core.List.{List, [], _∷_}
+use mathlib.Core.List.{List}
 use borrow.Author.Tests.{eq-eqb, ne-eqb, eqb-true}
 use lib.ListN.{length, getD, take, drop, drop-of-length-le}
 use lib.Seq.{drop-cons, take-at}
 use lib.Dec.{eqb}
 use Rattle.protocol.specs.Bytes.{every}
 use Rattle.protocol.specs.Text.{begins, sameText}
-use Rattle.protocol.specs.Tree.{Tree, propertyIn}
+use Rattle.protocol.specs.Tree.{Tree}
 use Rattle.protocol.specs.Sheet.{settingsOf, isPlain, writable}
 use Rattle.protocol.proofs.LoadLaws.{begins-stands, text-same, text-self}
 use Rattle.sheet.specs.Steps.{labelAt, settingsFrom, NextIs}

@@ -10,7 +10,7 @@ use lib.ListN.{length, drop, set, length-drop, length-set}
 use lib.Seq.{drop-drop}
 use lib.Dec.{eqb}
 use Rattle.protocol.specs.Numbers.{done, badSheet, notInRange}
-use Rattle.protocol.specs.Tree.{Property, Tree, Cell, propertyIn, cellIn}
+use Rattle.protocol.specs.Tree.{Tree, Cell, propertyIn, cellIn}
 use Rattle.protocol.specs.Answer.{stored}
 use Rattle.protocol.specs.Sheet.{isSetting, settingsOf, isLine, lineSize, lineWord, lineInRange, isSheet, allInRange, sheetNumber, loaded}
 use Rattle.protocol.proofs.LoadLaws.{line-inside}

@@ -20,6 +20,7 @@ use Rattle.tree.specs.Lookup.{FieldsAre, numbersOf}
 use Rattle.tree.specs.declared.record.Fields.{Fields}
 use Rattle.tree.proofs.RangeLaws.{sign-same}
 use Rattle.text.specs.Read.{ToldIs}
+use Rattle.text.proofs.ReadLaws.{told-fits, told-word, told-size}
 use Rattle.text.specs.declared.read.Told.{Told}
 use Rattle.sheet.specs.Steps.{LineIs}
 use Rattle.sheet.specs.declared.read.Line.{Line}
@@ -93,7 +94,7 @@ module _ (p : Property) (bs : List ℕ) where
 
       module _ (is : told .is ≡ true) where
         size-here : told .size ≡ numberSize (drop (suc (length (p .label))) bs)
-        size-here = found .bytes is ∙ ap numberSize lent
+        size-here = told-size found is ∙ ap numberSize lent
 
         pub line-fits : suc (length (p .label)) ≤ length bs → suc (length (p .label)) + told .size ≤ length bs
         line-fits h =
@@ -110,13 +111,13 @@ module _ (p : Property) (bs : List ℕ) where
         in-range-here = go (told .fits) refl
           where
             fit : told .fits ≡ isWord (takesSign p) (numberIn (drop (suc (length (p .label))) bs))
-            fit = found .fits is ∙ ap₂ (λ a x. isWord a (numberIn x)) same-sign lent
+            fit = told-fits found is ∙ ap₂ (λ a x. isWord a (numberIn x)) same-sign lent
 
             go : (b : Bool) → told .fits ≡ b → (told .fits && mayHold (numbersOf f) (told .word)) ≡ lineInRange p bs
             go false g = ap (λ b. b && mayHold (numbersOf f) (told .word)) g ∙ sym (ap (λ b. b && mayHold p (lineWord p bs)) (sym fit ∙ g))
             go true g =
                 ap₂ (λ a b. a && b) fit
-                (hold-same (told .word) fields ∙ ap (mayHold p) (found .word is g ∙ ap (λ x. wordFor (numberIn x)) lent))
+                (hold-same (told .word) fields ∙ ap (mayHold p) (told-word found is g ∙ ap (λ x. wordFor (numberIn x)) lent))
 
         pub line-found : {start : ℕ} {b : Bool} → start ≡ suc (length (p .label)) → b ≡ (told .fits && mayHold (numbersOf f) (told .word))
             → LineIs p bs (record { is = true; «in_range» = b; word = told .word; size = start + told .size })
@@ -126,6 +127,6 @@ module _ (p : Property) (bs : List ℕ) where
               is = sym (number-here ∙ is);
               in-range = λ _. h ∙ in-range-here;
               word =
-                  λ _ k. found .word is (and-left (told .fits) _ (sym h ∙ k)) ∙ ap (λ x. wordFor (numberIn x)) lent;
+                  λ _ k. told-word found is (and-left (told .fits) _ (sym h ∙ k)) ∙ ap (λ x. wordFor (numberIn x)) lent;
               bytes = λ _. ap₂ (λ a b. a + b) g size-here;
             }

@@ -61,13 +61,6 @@ module _ (t : Tree) where
   pub next-none : {from k : ℕ} → Passing from k → length (t .properties) ≤ k → NextIs t from k
   next-none p h = record { behind = p .behind; same = p .same; is = λ l. absurd (omega (arith, h, l)) }
 
-  -- What is left from the next setting on.
-  pub next-here : {from k : ℕ} → NextIs t from k → k < length (t .properties) → settingsFrom t from ≡ k ∷ settingsFrom t (k + 1)
-  next-here n h = n .same ∙ settings-here h (n .is h)
-
-  pub next-end : {from k : ℕ} → NextIs t from k → length (t .properties) ≤ k → settingsFrom t from ≡ []
-  next-end n h = n .same ∙ settings-end h
-
 -- A test of settings, one after the other: each is tested with those behind it in view.
 module _ (t : Tree) (all : List ℕ → Bool) (one : ℕ → List ℕ → Bool) where
   pub record Tests : Type 0 where

@@ -13,7 +13,6 @@ use protocol::NO_ROOM;
 use protocol::NOT_IN_RANGE;
 use protocol::UNSOUND;
 ghost use mathlib.Core.Path.{_≡_};
-ghost use mathlib.Core.Bool.{true};
 ghost use Prim.Native.Nat.{_≤_};
 ghost use lib.ListN.{length};
 ghost use Rattle.protocol.specs.Buffer.{Fills};

@@ -8,7 +8,6 @@ use tree::range;
 use tree::record;
 ghost use mathlib.Core.Path.{_≡_};
 ghost use mathlib.Core.Bool.{true};
-ghost use Prim.Native.Nat.{_≤_};
 ghost use Rattle.protocol.specs.Buffer.{Laid};
 ghost use Rattle.protocol.specs.Tree.{propertyIn, cellIn};
 ghost use Rattle.protocol.specs.Sheet.{isSetting, mayHold, settingLine, sheet, inRanges};

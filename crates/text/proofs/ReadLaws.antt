@@ -185,15 +185,42 @@ module _ (bs : List ℕ) {len : ℕ} (e : len ≡ digitsIn bs) where
       go false l = rw l (eq-eqb len 1 (omega (arith, h, ltb-false 1 len l)))
 
 -- No number stands there.
-pub told-none : {stands signed : Bool} {n : Number} {size : ℕ} {r : Told} → r .is ≡ false → stands ≡ false
-    → ToldIs stands signed n size r
-told-none h e =
+pub told-none : {stands signed : Bool} {n : Number} {size : ℕ} {r : Told}
+    → (r .is ≡ false) × ((r .fits ≡ false) × ((r .word ≡ 0) × (r .size ≡ 0))) → stands ≡ false → ToldIs stands signed n size r
+told-none {stands} {signed} {n} {size} h e =
     record {
-      is = h ∙ sym e;
-      fits = λ y. absurd (false≢true (sym h ∙ y));
-      word = λ y. absurd (false≢true (sym h ∙ y));
-      bytes = λ y. absurd (false≢true (sym h ∙ y));
+      is = h .0 ∙ sym e;
+      fits = h .1 .0 ∙ sym (ap (λ b. b && isWord signed n) e);
+      word = h .1 .1 .0 ∙ sym (ap (λ b. cond (b && isWord signed n) (wordFor n) 0) e);
+      bytes = h .1 .1 .1 ∙ sym (ap (λ b. cond b size 0) e);
     }
+
+-- One does.
+module _ {stands signed : Bool} {n : Number} {size : ℕ} where
+  told-some : {fits : Bool} {v w k : ℕ} → stands ≡ true → fits ≡ isWord signed n → (fits ≡ true → v ≡ wordFor n) → w ≡ cond fits v 0 → k ≡ size
+      → ToldIs stands signed n size (record { is = true; fits = fits; word = w; size = k })
+  told-some {fits} {v} s f h e k =
+      let g : fits ≡ (stands && isWord signed n) = f ∙ sym (ap (λ b. b && isWord signed n) s) in
+      record {
+        is = sym s;
+        fits = g;
+        word = e ∙ go fits h ∙ ap (λ b. cond b (wordFor n) 0) g;
+        bytes = k ∙ sym (ap (λ b. cond b size 0) s);
+      }
+    where
+      go : (b : Bool) → (b ≡ true → v ≡ wordFor n) → cond b v 0 ≡ cond b (wordFor n) 0
+      go true h = h refl
+      go false h = refl
+
+  module _ {r : Told} (t : ToldIs stands signed n size r) (h : r .is ≡ true) where
+    pub told-fits : r .fits ≡ isWord signed n
+    told-fits = t .fits ∙ ap (λ b. b && isWord signed n) (sym (t .is) ∙ h)
+
+    pub told-word : r .fits ≡ true → r .word ≡ wordFor n
+    told-word f = t .word ∙ ap (λ b. cond b (wordFor n) 0) (sym (t .fits) ∙ f)
+
+    pub told-size : r .size ≡ size
+    told-size = t .bytes ∙ ap (λ b. cond b size 0) (sym (t .is) ∙ h)
 
 -- Behind a minus there is no numeral, or a 0.
 pub minus-none : (bs : List ℕ) → isNumeral bs ≡ false → (isNumeral bs && not (eqb (getD bs 0 0) 48)) ≡ false
@@ -208,41 +235,37 @@ word-most true = omega arith
 word-most false = omega arith
 
 module _ (bs : List ℕ) (is : isNumeral bs ≡ true) {d : Digits} (read : DigitsAre bs d) where
-  pub told-plain : {fits : Bool} (signed : Bool) (most : ℕ) → most + 1 ≡ cond signed (2 ^ 31) wordEnd → Compares (d .sum) most fits
+  pub told-plain : {fits : Bool} {w : ℕ} (signed : Bool) (most : ℕ) → most + 1 ≡ cond signed (2 ^ 31) wordEnd → Compares (d .sum) most fits
+      → w ≡ cond fits (d .sum .value) 0
       → ToldIs (isNumeral bs) signed (number false (value bs)) (1 + digitsIn bs)
-      (record { is = true; fits = fits; word = d .sum .value; size = d .len + 1 })
+      (record { is = true; fits = fits; word = w; size = d .len + 1 })
   unfolding isWord wordFor
-  told-plain {fits} signed most e c =
+  told-plain {fits} signed most e c f =
       let n : ℕ = value bs in
       let at-most : fits ≡ leb n most = c n (read .sum) in
-      record {
-        is = sym is;
-        fits = λ _.
-            at-most
-            ∙ leb-same n most (suc n) (cond signed (2 ^ 31) wordEnd) (λ h. omega (arith, h, e)) (λ h. omega (arith, h, e));
-        word = λ _ y.
-            read .sum .is (read .sum .fits ∙ lt-ltb n wordEnd (omega (arith, leb-true n most (sym at-most ∙ y), e, word-most signed)));
-        bytes = λ _. omega (arith, read .len);
-      }
+      told-some is
+      (at-most
+      ∙ leb-same n most (suc n) (cond signed (2 ^ 31) wordEnd) (λ h. omega (arith, h, e)) (λ h. omega (arith, h, e)))
+      (λ y. read .sum .is (read .sum .fits ∙ lt-ltb n wordEnd (omega (arith, leb-true n most (sym at-most ∙ y), e, word-most signed))))
+      f
+      (omega (arith, read .len))
 
-  pub told-minus : {w : ℕ} {fits : Bool} → (getD bs 0 0 ≡ 48 → ⊥) → Compares (d .sum) (2 ^ 31) fits
-      → w ≡ (wordEnd - d .sum .value) % wordEnd
+  pub told-minus : {v w : ℕ} {fits : Bool} → (getD bs 0 0 ≡ 48 → ⊥) → Compares (d .sum) (2 ^ 31) fits
+      → v ≡ (wordEnd - d .sum .value) % wordEnd → w ≡ cond fits v 0
       → ToldIs (isNumeral bs && not (eqb (getD bs 0 0) 48)) true (number true (value bs)) (2 + digitsIn bs)
       (record { is = true; fits = fits; word = w; size = d .len + 2 })
   unfolding isWord wordFor
-  told-minus {w} {fits} z c e =
+  told-minus {v} {w} {fits} z c e f =
       let n : ℕ = value bs in
       let first : eqb (getD bs 0 0) 48 ≡ false = ne-eqb (getD bs 0 0) 48 z in
       let at-most : fits ≡ leb n (2 ^ 31) = c n (read .sum) in
-      record {
-        is = sym (ap₂ (λ a b. a && not b) is first);
-        fits = λ _. at-most;
-        word = λ _ y.
-            let l = leb-true n (2 ^ 31) (sym at-most ∙ y) in
-            let v : d .sum .value ≡ n = read .sum .is (read .sum .fits ∙ lt-ltb n wordEnd (omega (arith, l))) in
-            omega (arith, e, v, l, value-above bs is first);
-        bytes = λ _. omega (arith, read .len);
-      }
+      told-some (ap₂ (λ a b. a && not b) is first) at-most
+      (λ y.
+      let l = leb-true n (2 ^ 31) (sym at-most ∙ y) in
+      let s : d .sum .value ≡ n = read .sum .is (read .sum .fits ∙ lt-ltb n wordEnd (omega (arith, l))) in
+      omega (arith, e, s, l, value-above bs is first))
+      f
+      (omega (arith, read .len))
 
 -- A number by its first byte.
 pub number-none : (signed : Bool) (bs : List ℕ) → length bs ≡ 0 → isNumber signed bs ≡ false

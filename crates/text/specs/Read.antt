@@ -1,7 +1,7 @@
 -- What is read at the front of some bytes, as code hands it back.
 use Prim.Native.Nat.{ℕ, _+_, _*_}
 use mathlib.Core.Path.{_≡_}
-use mathlib.Core.Bool.{Bool, true}
+use mathlib.Core.Bool.{Bool, true, cond, _&&_}
 use mathlib.Core.List.{List}
 use lib.Dec.{ltb, leb}
 use Rattle.protocol.specs.Numbers.{wordEnd}
@@ -29,9 +29,9 @@ pub record DigitsAre (bs : List ℕ) (r : Digits) : Type 0 where
 abbrev pub number : Bool → ℕ → Number
 number below size = record { below = below; size = size }
 
--- A number that stands there, or that none does; how many bytes it takes, whether it is one of 32 bits, and its word.
+-- Whether a number stands there, whether it is one of 32 bits, its word, and how many bytes it takes; what there is not is 0.
 pub record ToldIs (stands signed : Bool) (n : Number) (size : ℕ) (r : Told) : Type 0 where
   pub is : r .is ≡ stands
-  pub fits : r .is ≡ true → r .fits ≡ isWord signed n
-  pub word : r .is ≡ true → r .fits ≡ true → r .word ≡ wordFor n
-  pub bytes : r .is ≡ true → r .size ≡ size
+  pub fits : r .fits ≡ (stands && isWord signed n)
+  pub word : r .word ≡ cond (stands && isWord signed n) (wordFor n) 0
+  pub bytes : r .size ≡ cond stands size 0

@@ -116,8 +116,8 @@ fn is_numeral(bs: &[u8], len: usize) -> bool
     len == 1
 }
 
-// A number that was read: whether one stands there, and if so, whether it is one of 32 bits, the word that holds it, and how many
-// bytes it takes with its 0Ah.
+// A number that was read: whether one stands there, whether it is one of 32 bits, the word that holds it, and how many bytes it
+// takes with its 0Ah. What there is not is 0.
 pub struct Told {
     pub is: bool,
     pub fits: bool,
@@ -126,7 +126,7 @@ pub struct Told {
 }
 
 fn nothing() -> Told
-    ensures { λ r. ⌜ r .is ≡ false ⌝ }
+    ensures { λ r. ⌜ (r .is ≡ false) × ((r .fits ≡ false) × ((r .word ≡ 0) × (r .size ≡ 0))) ⌝ }
 {
     Told {
         is: false,
@@ -166,6 +166,16 @@ fn negated(size: u32) -> u32
     u32::MAX - size + 1
 }
 
+// The word of a number, and 0 where it is not one of 32 bits.
+fn word_if(fits: bool, word: u32) -> u32
+    ensures { λ r. ⌜ r ≡ cond fits word 0 ⌝ }
+{
+    if fits {
+        return word;
+    }
+    0
+}
+
 // A number with no sign.
 fn plain(signed: bool, bs: &[u8]) -> Told
     ensures { λ r. ⌜ ToldIs (isNumeral (now (bs .entry))) signed (number false (value (now (bs .entry)))) (1 + digitsIn (now (bs .entry))) r ⌝ }
@@ -174,10 +184,11 @@ fn plain(signed: bool, bs: &[u8]) -> Told
     if !is_numeral(bs, d.len) {
         return nothing();
     }
+    let fits = is_at_most(d.sum, highest(signed));
     Told {
         is: true,
-        fits: is_at_most(d.sum, highest(signed)),
-        word: d.sum.value,
+        fits,
+        word: word_if(fits, d.sum.value),
         size: d.len + 1,
     }
 }
@@ -193,10 +204,11 @@ fn below_zero(bs: &[u8]) -> Told
     if bs[0] == ZERO {
         return nothing();
     }
+    let fits = is_at_most(d.sum, LOWEST);
     Told {
         is: true,
-        fits: is_at_most(d.sum, LOWEST),
-        word: negated(d.sum.value),
+        fits,
+        word: word_if(fits, negated(d.sum.value)),
         size: d.len + 2,
     }
 }

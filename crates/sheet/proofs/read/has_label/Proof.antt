@@ -1,5 +1,4 @@
 -- `sheet::read::has_label` meets its contract. Assumes nothing.
-use native.Mathlib.Omega.{arith}
 use Rattle.sheet.proofs.ReadLaws.{label-short, label-other, label-by}
 use borrow.Author.Needs.{needs}
 use Rattle.sheet.proofs.read.has_label.Statement.{statement}

@@ -45,19 +45,23 @@ is-at-most-requires c κs = search needs
 negated-requires : tie.Need-negated-requires
 negated-requires c κs = search needs
 
-add-t8 : tie.Need-add-t8
-add-t8 c =
-    let read = c .before .before .before .before .before .before .before in
+word-if-requires : tie.Need-word-if-requires
+word-if-requires c κs = search needs
+
+add-t10 : tie.Need-add-t10
+add-t10 c =
+    let read = c .before .before .before .before .before .before .before .before in
     omega (arith, read .read-digits .ensures .len, digits-inside (read .before .before .args .bs .now))
 
 returns-3 : tie.Need-returns-3
 returns-3 c =
-    let made = c .before in
+    let word = c .before in
+    let made = word .before in
     let above = made .before .before in
     let is = above .before .before in
     let read = is .before .before in
     told-minus (read .before .before .args .bs .now) (sym (is .before .is-numeral .ensures) ∙ not-false _ (is .if1 .left))
-    (read .read-digits .ensures) (above .if2 .left) (made .before .is-at-most .ensures) (made .negated .ensures)
+    (read .read-digits .ensures) (above .if2 .left) (made .before .is-at-most .ensures) (made .negated .ensures) (word .word-if .ensures)
 
 pub below-zero-spec : {M : Type 1} → statement M
 below-zero-spec =
@@ -72,5 +76,6 @@ below-zero-spec =
     returns-2
     is-at-most-requires
     negated-requires
-    add-t8
+    word-if-requires
+    add-t10
     returns-3)

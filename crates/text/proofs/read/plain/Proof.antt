@@ -28,20 +28,24 @@ highest-requires c κs = search needs
 is-at-most-requires : tie.Need-is-at-most-requires
 is-at-most-requires c κs = search needs
 
-add-t7 : tie.Need-add-t7
-add-t7 c =
-    let read = c .before .before .before .before .before in
+word-if-requires : tie.Need-word-if-requires
+word-if-requires c κs = search needs
+
+add-t8 : tie.Need-add-t8
+add-t8 c =
+    let read = c .before .before .before .before .before .before in
     omega (arith, read .read-digits .ensures .len, digits-inside (read .before .before .args .bs .now))
 
 returns-2 : tie.Need-returns-2
 returns-2 c =
-    let most = c .before in
+    let word = c .before in
+    let most = word .before in
     let is = most .before .before in
     let read = is .before .before in
     let start = read .before .before in
     told-plain (start .args .bs .now) (sym (is .before .is-numeral .ensures) ∙ not-false _ (is .if1 .left))
     (read .read-digits .ensures) (start .args .signed)
-    (most .before .highest .result) (most .before .highest .ensures) (most .is-at-most .ensures)
+    (most .before .highest .result) (most .before .highest .ensures) (most .is-at-most .ensures) (word .word-if .ensures)
 
 pub plain-spec : {M : Type 1} → statement M
 plain-spec =
@@ -53,5 +57,6 @@ plain-spec =
     returns
     highest-requires
     is-at-most-requires
-    add-t7
+    word-if-requires
+    add-t8
     returns-2)
