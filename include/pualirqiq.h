@@ -268,7 +268,7 @@ uint8_t pq_write_udp(uint8_t op, const uint8_t *path, size_t path_len, uint8_t i
  *   pq_begin_cells     248      pq_frame            16      pq_restore_cells   264
  *   pq_begin_stream     24      pq_list           4720      pq_serve_data      424
  *   pq_cells_size      232      pq_post            280      pq_serve_serial    696
- *   pq_check           248      pq_read_frame       96      pq_serve_udp       424
+ *   pq_check           248      pq_read_frame      105      pq_serve_udp       424
  *   pq_check_tree      216      pq_read_serial     232      pq_state_size        8
  *   pq_datagram          8      pq_read_sheet      408      pq_write_serial    184
  *   pq_datagram_data     8      pq_read_udp        184      pq_write_sheet    1024

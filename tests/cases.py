@@ -524,6 +524,21 @@ CASES = [
     ("load/18 2147483648", "load_cold", b"Offset=2147483648\nAlarm=0\n=1\nMode=1\nSerial=0\n"),
     ("load/18 2^32", "load_cold", b"Offset=0\nAlarm=0\n=1\nMode=1\nSerial=4294967296\n"),
     ("load/18 2^32 + 4", "load", b"Average=4294967300\nRate=1\n"),
+    # 02, section 4: sums that wrap; and checksums of sums taken in a wrong way, which are refused.
+    ("sum/255", "write_frame", 0xFF, H("00")),
+    ("sum/256", "write_frame", 0xFF, H("01")),
+    ("sum/256 of 10h", "write_frame", 0x10, b"\x10" * 15),
+    ("sum/FFFFh", "write_frame", 0xFF, b"\xFF" * 256),
+    ("sum/FFFFh", "read_frame", 0xFF, frame(0xFF, b"\xFF" * 256)),
+    ("sum/FFFFh", "feed", 0xFF, frame(0xFF, b"\xFF" * 256)),
+    ("sum/6 begun after the address", "read_frame", 1, H("100201B4004B1003")),
+    ("sum/6 begun after the address", "feed", 1, H("100201B4004B1003")),
+    ("sum/6 10h added twice", "read_frame", 0, H("1002001010DF1003")),
+    ("sum/6 10h added twice", "feed", 0, H("1002001010DF1003")),
+    ("sum/6 saturated", "read_frame", 0xFF, H("1002FF01001003")),
+    ("sum/6 saturated", "feed", 0xFF, H("1002FF01001003")),
+    ("sum/6 end-around carry", "read_frame", 0xFF, H("1002FF01FE1003")),
+    ("sum/6 not taken from 255", "read_frame", 0, H("100200B400B41003")),
     # 003: the checksum of a sum of 1234h, and the examples of section 5.
     ("003/checksum", "write_frame", 0, b"\xFF" * 18 + b"\x46"),
     ("003/5.1", "penko", H("B400")),
@@ -539,7 +554,7 @@ CASES = [
     ("003/5.6 gain point", "penko", H("B4050103020201030100" "000186A0")),
 ]
 
-# What the documents print in full; of sheets, what they come to.
+# What the documents print in full; of sheets and sums, what they come to.
 SAYS = {
     "01/address 10h": "0 10021010B4003B1003",
     "01/10 02 10 03": "4 ",
@@ -555,6 +570,9 @@ SAYS = {
     "sheet/8": "8 ",
     "load/0": "0 0000083401" "0000213400" "0000004000" "0000000100" "0000000000",
     "load/18 2^32 + 4": "18 0000083401" "0000213400" "0000000400" "0000000000" "0000000000",
+    "sum/255": "0 1002FF00001003",
+    "sum/256": "0 1002FF01FF1003",
+    "003/checksum": "0 100200" + "FF" * 18 + "46CB1003",
     "003/5.2 totals": "0 B40101010A0401546F74616C7300",
     "003/5.3 weigher": "0 B40201010301010100000000000000002001C00357656967686572004B6700",
     "003/5.3 layout": "0 B40201030A010102000000000000000100031080" "4C61796F757400" "5469636B6574004C696E6500",

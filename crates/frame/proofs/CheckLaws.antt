@@ -1,6 +1,6 @@
 -- A serial string checked, and its data copied out of it.
 -- Assumes nothing.
-use Prim.Native.Nat.{ℕ, zero, suc, _+_, _-_, _%_, _^_, _<_, _≤_}
+use Prim.Native.Nat.{ℕ, zero, suc, _+_, _-_, _<_, _≤_}
 use native.Mathlib.Omega.{arith}
 use native.Mathlib.Nat.{sub-zero, not-suc-le-zero, le-of-suc-le-suc}
 use mathlib.Core.Path.{_≡_, refl, sym, ap, ap₂, subst, _∙_}
@@ -22,7 +22,7 @@ use Rattle.protocol.proofs.BufferLaws.{put-nil, puts, length-put, over-put, ove
 use Rattle.frame.specs.declared.read.Tally.{Tally}
 use Rattle.frame.specs.declared.read.Scan.the-variants.{Whole, Broken}
 use Rattle.frame.specs.declared.read.Checked.{Checked}
-use Rattle.frame.specs.Steps.{Tallies, ScanOf, failed, passed, judged, contentFrom, Checks}
+use Rattle.frame.specs.Steps.{byteSum, Tallies, ScanOf, failed, passed, judged, contentFrom, Checks}
 
 -- One content byte more, of a list that begins with it.
 content-step : (n b : ℕ) (l : List ℕ) → l ≡ b ∷ drop 1 l → contentFrom (suc n) l ≡ b ∷ contentFrom n (drop (length (doubled b)) l)
@@ -219,12 +219,12 @@ checks-broken a s h = go (undouble false (drop 2 s)) refl
     go (some c) e w = absurd w
 
 -- The checksum is right exactly where all bytes of the content sum up to 255.
-summed-same : (c : List ℕ) → 1 ≤ length c → checksumIn c < byteEnd → isSummed c ≡ eqb (sum c % 2 ^ 8) 255
+summed-same : (c : List ℕ) → 1 ≤ length c → checksumIn c < byteEnd → isSummed c ≡ eqb (byteSum c) 255
 unfolding checksum
 summed-same c h k =
     let front : List ℕ = take (length c - 1) c in
     let total : sum c ≡ sum front + checksumIn c = ap sum (init-last c h) ∙ sum-snoc front (checksumIn c) in
-    eqb-same (checksumIn c) (255 - sum front % 2 ^ 8) (sum c % 2 ^ 8) 255
+    eqb-same (checksumIn c) (255 - byteSum front) (byteSum c) 255
     (λ e. omega (arith, e, total))
     (λ e. omega (arith, e, total, k))
 

@@ -14,7 +14,6 @@ use lib.Dec.{eqb}
 use Rattle.protocol.specs.Numbers.{DLE, ETX}
 use Rattle.protocol.specs.Bytes.{sum}
 use Rattle.protocol.specs.Frame.{undouble, push, atEnd}
-use Rattle.protocol.proofs.ListLaws.{sum-snoc}
 use Rattle.protocol.proofs.FrameLaws.{undouble-lone, undouble-dle, undouble-pair, undouble-end, undouble-bad}
 use Rattle.frame.specs.declared.read.Tally.{Tally}
 use Rattle.frame.specs.declared.read.Scan.the-variants.{Whole, Broken}
@@ -138,7 +137,7 @@ pub tallies-more : (c : List ℕ) (b : ℕ) {t r : Tally} → Tallies c t → On
 tallies-more c b {t} {r} w m =
     record {
       count = omega (arith, m .count, w .count, length-append c (b ∷ []));
-      total = omega (arith, m .total, w .total, sum-snoc c b);
+      total = m .total c (w .total);
       first = m .first ∙ go c (w .count) (w .first);
     }
   where

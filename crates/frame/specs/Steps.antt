@@ -2,7 +2,7 @@
 use Prim.Native.Nat.{ℕ, zero, suc, _+_, _-_, _%_, _^_}
 use mathlib.Core.Path.{_≡_}
 use mathlib.Core.Bool.{cond}
-use mathlib.Core.List.{List, [], _∷_}
+use mathlib.Core.List.{List, [], _∷_, _++_}
 use mathlib.Core.Option.{Option, none, some}
 use lib.ListN.{length, getD, drop}
 use lib.Dec.{eqb, ltb}
@@ -17,10 +17,19 @@ use Rattle.frame.specs.declared.read.Scan.the-variants.{Whole, Broken}
 use Rattle.frame.specs.declared.read.Piece.{Piece}
 use Rattle.frame.specs.declared.read.Piece.the-variants.{Lone, Doubled, End, Bad}
 
--- Bytes put from a place on, doubled, and added to a sum mod 256.
-pub record PutBody (from first : ℕ) (bs old : List ℕ) (at total : ℕ) (new : List ℕ) : Type 0 where
+-- 02, section 4: what is kept of the bytes added, from the address on: their sum mod 256.
+abbrev pub byteSum : List ℕ → ℕ
+byteSum bs = sum bs % 2 ^ 8
+
+-- The same sentence, of one byte more: what is kept of any bytes becomes what is kept of them and b. Every byte is kept of some
+-- bytes (`kept-alone`), so this fixes r.
+abbrev pub Adds : ℕ → ℕ → ℕ → Type 0
+Adds kept b r = (bs : List ℕ) → kept ≡ byteSum bs → r ≡ byteSum (bs ++ b ∷ [])
+
+-- Bytes put from a place on, doubled, and added to the sum that an address began.
+pub record PutBody (from address : ℕ) (bs old : List ℕ) (at total : ℕ) (new : List ℕ) : Type 0 where
   pub put : Put from (double bs) old at new
-  pub summed : total ≡ (first + sum bs) % 2 ^ 8
+  pub summed : total ≡ byteSum (address ∷ bs)
 
 -- A pair, and whether anything follows it.
 abbrev pub ending : List ℕ → Piece
@@ -39,13 +48,13 @@ pieceOf (b ∷ p ∷ bs) = cond (eqb b DLE) (pair p bs) (Lone b)
 -- The tally of a content.
 pub record Tallies (c : List ℕ) (t : Tally) : Type 0 where
   pub count : t .count ≡ length c
-  pub total : t .sum ≡ sum c % 2 ^ 8
+  pub total : t .sum ≡ byteSum c
   pub first : t .first ≡ getD c 0 0
 
 -- One byte more.
 pub record OneMore (t : Tally) (b : ℕ) (r : Tally) : Type 0 where
   pub count : r .count ≡ t .count + 1
-  pub total : r .sum ≡ (t .sum + b) % 2 ^ 8
+  pub total : Adds (t .sum) b (r .sum)
   pub first : r .first ≡ cond (eqb (t .count) 0) b (t .first)
 
 -- What a pass finds of bytes that have a content, and of bytes that have none.

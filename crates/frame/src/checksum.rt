@@ -1,11 +1,9 @@
-// The sum that a checksum is taken of.
-ghost use mathlib.Core.Path.{_≡_};
-ghost use Prim.Native.Nat.{_+_, _%_, _<_, _^_};
+// The sum that a checksum is taken of, kept in one byte that wraps.
+ghost use Rattle.frame.specs.Steps.{Adds};
 
-// The sum of some bytes mod 256, with one byte more. Writer and reader both sum by it.
-pub(crate) fn add(sum: u16, b: u8) -> u16
-    requires { ⌜ sum < 2 ^ 8 ⌝ }
-    ensures { λ r. ⌜ r ≡ (sum + b) % 2 ^ 8 ⌝ }
+// One byte more in the byte kept. Writer and readers all sum by it.
+pub(crate) fn add(kept: u8, b: u8) -> u8
+    ensures { λ r. ⌜ Adds kept b r ⌝ }
 {
-    (sum + b as u16) % 256
+    std::num::wrapping_add_u8(kept, b)
 }

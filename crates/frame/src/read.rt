@@ -61,13 +61,13 @@ fn piece_at(s: &[u8], i: usize) -> Piece
 // What a content is judged by: how many bytes it has, their sum mod 256, and the first of them.
 pub(crate) struct Tally {
     pub count: usize,
-    pub sum: u16,
+    pub sum: u8,
     pub first: u8,
 }
 
 // The tally with one byte more.
 fn add_byte(t: Tally, b: u8) -> Tally
-    requires { ⌜ (t .count < 2 ^ 63) × (t .sum < 2 ^ 8) ⌝ }
+    requires { ⌜ t .count < 2 ^ 63 ⌝ }
     ensures { λ r. ⌜ OneMore t b r ⌝ }
 {
     let sum = checksum::add(t.sum, b);

@@ -9,26 +9,26 @@ use protocol::ETX;
 use protocol::NO_ROOM;
 use protocol::ROOM_SERIAL;
 use protocol::STX;
-ghost use Prim.Native.Nat.{_+_, _*_, _≤_, _<_, _^_};
+ghost use Prim.Native.Nat.{_+_, _*_, _≤_};
 ghost use lib.ListN.{length};
 ghost use Rattle.protocol.specs.Numbers.{roomSerial};
 ghost use Rattle.protocol.specs.Frame.{frame, writeFrame, ifRoom};
 ghost use Rattle.protocol.specs.Buffer.{Put, Emits};
 ghost use Rattle.frame.specs.Steps.{PutBody};
 
-// The place after what was put, and the sum of the bytes before doubling.
+// The place after what was put, and the sum of address and data before doubling.
 pub(crate) struct Body {
     pub at: usize,
-    pub sum: u16,
+    pub sum: u8,
 }
 
-// Bytes put at a place, each 10h twice, and added to a sum.
-fn put_body(payload: &[u8], out: &mut [u8], from: usize, first: u16) -> Body
-    requires { ⌜ (from + 2 * length (now payload) ≤ length (now out)) × (first < 2 ^ 8) ⌝ }
-    ensures { λ r. ⌜ PutBody from first (now (payload .entry)) (now (out .entry)) (r .at) (r .sum) (now (out .exit)) ⌝ }
+// Data put at a place, each 10h twice, and added to the sum that the address begins.
+fn put_body(payload: &[u8], out: &mut [u8], from: usize, address: u8) -> Body
+    requires { ⌜ from + 2 * length (now payload) ≤ length (now out) ⌝ }
+    ensures { λ r. ⌜ PutBody from address (now (payload .entry)) (now (out .entry)) (r .at) (r .sum) (now (out .exit)) ⌝ }
 {
     let mut at = from;
-    let mut sum = first;
+    let mut sum = address;
     let mut i = 0;
     while i < payload.len() {
         let b = payload[i];
@@ -47,8 +47,8 @@ fn put_frame(address: u8, payload: &[u8], out: &mut [u8]) -> usize
     let opened = buffer::put(out, 0, DLE);
     let started = buffer::put(out, opened, STX);
     let addressed = buffer::put_doubled(out, started, address);
-    let body = put_body(payload, out, addressed, address as u16);
-    let summed = buffer::put_doubled(out, body.at, (255 - body.sum) as u8);
+    let body = put_body(payload, out, addressed, address);
+    let summed = buffer::put_doubled(out, body.at, 255 - body.sum);
     let closing = buffer::put(out, summed, DLE);
     buffer::put(out, closing, ETX)
 }

@@ -6,9 +6,10 @@ pub const DLE: u8 = 0x10;
 pub const STX: u8 = 0x02;
 pub const ETX: u8 = 0x03;
 
-/// The sum of address and data mod 256, taken from 255.
+/// The sum of address and data, all of it; then, as PDI chapter 2 goes on in its example, AND FFh and XOR FFh.
 pub fn checksum(address: u8, data: &[u8]) -> u8 {
-    255 - data.iter().fold(address, |sum, byte| sum.wrapping_add(*byte))
+    let sum = u32::from(address) + data.iter().map(|byte| u32::from(*byte)).sum::<u32>();
+    (sum & 0xFF ^ 0xFF) as u8
 }
 
 /// Refuses data that is empty or over 256 bytes long.

@@ -15,10 +15,10 @@ abbrev μ-loop : tie.MeasureT-loop
 μ-loop s t₀ i₀ t i = length s - i
 
 -- A turn's tally is small enough for one byte more.
-few : (c : tie.In-loop Inv-loop μ-loop) → (c .before .loop .t .count < 2 ^ 63) × (c .before .loop .t .sum < 2 ^ 8)
+few : (c : tie.In-loop Inv-loop μ-loop) → c .before .loop .t .count < 2 ^ 63
 few c =
     let w = c .before .loop .inv in
-    (omega (arith, w .tally .count, w .short, w .within, c .before .before .before .good .0 .1), omega (arith, w .tally .total))
+    omega (arith, w .tally .count, w .short, w .within, c .before .before .before .good .0 .1)
 
 loop-holds : tie.Need-loop-holds Inv-loop μ-loop
 loop-holds c = begins (c .before .args .s .now) (c .before .pre)

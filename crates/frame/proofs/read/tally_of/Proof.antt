@@ -22,10 +22,8 @@ add-byte-requires : tie.Need-add-byte-requires Inv-loop μ-loop
 add-byte-requires c κs =
     let at-loop = c .before .before in
     let w = at-loop .loop .inv in
-    let content = at-loop .before .before .args .content .now in (
-      omega (arith, w .tally .count, length-take (at-loop .loop .i) content, w .within, at-loop .before .before .good .0 .1),
-      omega (arith, w .tally .total),
-    )
+    let content = at-loop .before .before .args .content .now in
+    omega (arith, w .tally .count, length-take (at-loop .loop .i) content, w .within, at-loop .before .before .good .0 .1)
 
 add-i : tie.Need-add-i Inv-loop μ-loop
 add-i c = omega arith

@@ -83,17 +83,12 @@ put-doubled-requires c κs = search needs
 put-body-requires : tie.Need-put-body-requires
 put-body-requires c κs =
     let d = c .before .before .before in
-    let start = start-3 d in (
-      put-room (addressed d) (2 * length (start .args .payload .now))
-          (omega (arith, start .pre .0, start .pre .1, length-doubled (start .args .address))),
-      omega (arith, start .fits .address .fits),
-    )
+    let start = start-3 d in
+    put-room (addressed d) (2 * length (start .args .payload .now))
+    (omega (arith, start .pre .0, start .pre .1, length-doubled (start .args .address)))
 
 sub-put-doubled : tie.Need-sub-put-doubled
 sub-put-doubled c = search needs
-
-cast-put-doubled : tie.Need-cast-put-doubled
-cast-put-doubled c = search needs
 
 put-doubled-requires-2 : tie.Need-put-doubled-requires-2
 put-doubled-requires-2 c κs =
@@ -138,7 +133,6 @@ put-frame-spec =
     put-doubled-requires
     put-body-requires
     sub-put-doubled
-    cast-put-doubled
     put-doubled-requires-2
     put-requires-3
     put-requires-4

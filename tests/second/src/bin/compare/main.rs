@@ -16,6 +16,7 @@ mod sheet_sweep;
 mod sheets;
 mod strays;
 mod streams;
+mod sums;
 mod sweep;
 mod tally;
 mod trees;
@@ -36,6 +37,7 @@ fn main() {
     cases::run(&random, &mut tally);
     if times >= 1.0 {
         sweep::run(&mut tally);
+        sums::run(&mut tally);
         largest::run(&random, &mut tally);
         listings::run(&mut tally);
         sheet_sweep::run(&random, &mut tally);
