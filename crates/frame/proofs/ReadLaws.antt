@@ -3,18 +3,18 @@
 use Prim.Native.Nat.{ℕ, suc, _+_, _-_, _<_, _≤_}
 use native.Mathlib.Omega.{arith}
 use native.Mathlib.Numerals.{add-one}
-use mathlib.Core.Path.{_≡_, refl, sym, ap, subst, _∙_}
+use mathlib.Core.Path.{_≡_, refl, sym, ap, ap₂, subst, _∙_}
 use mathlib.Core.Bool.{Bool, true, false, cond}
 use mathlib.Core.List.{List, [], _∷_, _++_, append-assoc, append-nil}
-use mathlib.Core.Option.{Option, none, some}
-use borrow.Author.Tests.{eq-eqb, ne-eqb}
+use mathlib.Core.Option.{none, some}
+use borrow.Author.Tests.{eq-eqb, ne-eqb, eqb-true}
 use lib.ListN.{length, getD, drop, length-append, length-drop, drop-of-length-le}
 use lib.Seq.{drop-cons, drop-drop}
 use lib.Dec.{eqb}
 use Rattle.protocol.specs.Numbers.{DLE, ETX}
 use Rattle.protocol.specs.Bytes.{sum}
-use Rattle.protocol.specs.Frame.{undouble, push, atEnd}
-use Rattle.protocol.proofs.FrameLaws.{undouble-lone, undouble-dle, undouble-pair, undouble-end, undouble-bad}
+use Rattle.protocol.specs.Frame.{doubled, double, undouble, atEnd}
+use Rattle.protocol.proofs.FrameLaws.{double-snoc, undouble-dle, undouble-end, undouble-bad, prepend, undouble-behind}
 use Rattle.frame.specs.declared.read.Tally.{Tally}
 use Rattle.frame.specs.declared.read.Scan.the-variants.{Whole, Broken}
 use Rattle.frame.specs.declared.read.Piece.{Piece}
@@ -80,57 +80,49 @@ module _ (s : List ℕ) (i : ℕ) where
       → (length s - i ≡ 2 → ⊥) → Bad ≡ pieceOf (drop i s)
   early-at h e f g k = sym (closing-at h e f g ∙ ap ending (drop-cons s (i + 2) 0 (omega (arith, h, k))))
 
--- What a piece says of the content of the bytes that it stands before, and how many bytes it takes.
-abbrev byPiece : Piece → List ℕ → Option (List ℕ)
-byPiece (Lone b) bs = push b (undouble false (drop 1 bs))
-byPiece Doubled bs = push DLE (undouble false (drop 2 bs))
-byPiece End bs = some []
-byPiece Bad bs = none
+-- A content byte at the front of some bytes, doubled, over k of them.
+record Stands (b k : ℕ) (bs : List ℕ) : Type 0 where
+  front : bs ≡ doubled b ++ drop k bs
+  width : length (doubled b) ≡ k
 
-abbrev width : Piece → ℕ
-width (Lone b) = 1
-width Doubled = 2
-width End = 2
-width Bad = 0
+lone-stands : (b : ℕ) (bs : List ℕ) → eqb b DLE ≡ false → Stands b 1 (b ∷ bs)
+lone-stands b bs e = record { front = rw e; width = rw e }
 
-record Says (bs : List ℕ) (p : Piece) : Type 0 where
-  content : undouble false bs ≡ byPiece p bs
-  fits : width p ≤ length bs
+pair-stands : (b p : ℕ) (bs : List ℕ) → eqb b DLE ≡ true → eqb p DLE ≡ true → Stands DLE 2 (b ∷ p ∷ bs)
+pair-stands b p bs e f = record { front = ap₂ (λ x y. x ∷ y ∷ bs) (eqb-true b DLE e) (eqb-true p DLE f); width = refl }
+
+-- What a piece says of the bytes that it is the first of.
+abbrev Says : List ℕ → Piece → Type 0
+Says bs (Lone b) = Stands b 1 bs
+Says bs Doubled = Stands DLE 2 bs
+Says bs End = undouble false bs ≡ some []
+Says bs Bad = undouble false bs ≡ none
 
 ending-says : (b p : ℕ) (bs : List ℕ) → undouble true (p ∷ bs) ≡ atEnd bs → eqb b DLE ≡ true → Says (b ∷ p ∷ bs) (ending bs)
-ending-says b p [] h e = record { content = undouble-dle b (p ∷ []) e ∙ h; fits = omega arith }
-ending-says b p (x ∷ bs) h e = record { content = undouble-dle b (p ∷ x ∷ bs) e ∙ h; fits = omega arith }
+ending-says b p [] h e = undouble-dle b (p ∷ []) e ∙ h
+ending-says b p (x ∷ bs) h e = undouble-dle b (p ∷ x ∷ bs) e ∙ h
 
 pair-says : (b p : ℕ) (bs : List ℕ) → eqb b DLE ≡ true → Says (b ∷ p ∷ bs) (pair p bs)
 pair-says b p bs e = go (eqb p DLE) refl (eqb p ETX) refl
   where
     go : (t : Bool) → eqb p DLE ≡ t → (u : Bool) → eqb p ETX ≡ u → Says (b ∷ p ∷ bs) (cond t Doubled (cond u (ending bs) Bad))
-    go true f u g = record { content = undouble-dle b (p ∷ bs) e ∙ undouble-pair p bs f; fits = omega arith }
+    go true f u g = pair-stands b p bs e f
     go false f true g = ending-says b p bs (undouble-end p bs f g) e
-    go false f false g = record { content = undouble-dle b (p ∷ bs) e ∙ undouble-bad p bs f g; fits = omega arith }
+    go false f false g = undouble-dle b (p ∷ bs) e ∙ undouble-bad p bs f g
 
 says : (bs : List ℕ) → Says bs (pieceOf bs)
 unfolding pieceOf undouble
-says [] = record { content = refl; fits = omega arith }
+says [] = refl
 says (b ∷ []) = go (eqb b DLE) refl
   where
     go : (t : Bool) → eqb b DLE ≡ t → Says (b ∷ []) (cond t Bad (Lone b))
-    go true e = record { content = undouble-dle b [] e; fits = omega arith }
-    go false e = record { content = undouble-lone b [] e; fits = omega arith }
+    go true e = undouble-dle b [] e
+    go false e = lone-stands b [] e
 says (b ∷ p ∷ bs) = go (eqb b DLE) refl
   where
     go : (t : Bool) → eqb b DLE ≡ t → Says (b ∷ p ∷ bs) (cond t (pair p bs) (Lone b))
     go true e = pair-says b p bs e
-    go false e = record { content = undouble-lone b (p ∷ bs) e; fits = omega arith }
-
--- A content in front of what is still to be read.
-abbrev prepend : List ℕ → Option (List ℕ) → Option (List ℕ)
-prepend c none = none
-prepend c (some d) = some (c ++ d)
-
-prepend-push : (c : List ℕ) (b : ℕ) (o : Option (List ℕ)) → prepend c (push b o) ≡ prepend (c ++ b ∷ []) o
-prepend-push c b none = refl
-prepend-push c b (some d) = ap some (sym (append-assoc c (b ∷ []) d))
+    go false e = lone-stands b (p ∷ bs) e
 
 -- One byte more in a tally.
 pub tallies-more : (c : List ℕ) (b : ℕ) {t r : Tally} → Tallies c t → OneMore t b r → Tallies (c ++ b ∷ []) r
@@ -145,24 +137,20 @@ tallies-more c b {t} {r} w m =
     go [] n f = rw (eq-eqb (t .count) 0 n)
     go (x ∷ c) n f = rw (ne-eqb (t .count) 0 (λ e. omega (arith, e, n))) f
 
--- The pass over a string, at a place.
+-- The pass over a string, at a place: the bytes passed are a content, doubled, and the tally is that content's.
 pub record Scanning (s : List ℕ) (t : Tally) (i : ℕ) : Type 0 where
   pub content : List ℕ
-  pub rest : undouble false (drop 2 s) ≡ prepend content (undouble false (drop i s))
+  pub passed : drop 2 s ≡ double content ++ drop i s
   pub tally : Tallies content t
   pub within : i ≤ length s
   pub short : length content + 2 ≤ i
 
-prepend-nil : (o : Option (List ℕ)) → prepend [] o ≡ o
-prepend-nil none = refl
-prepend-nil (some d) = refl
-
 pub begins : (s : List ℕ) → 2 ≤ length s → Scanning s (record { count = 0; sum = 0; first = 0 }) 2
-unfolding sum
+unfolding sum double
 begins s h =
     record {
       content = [];
-      rest = sym (prepend-nil (undouble false (drop 2 s)));
+      passed = refl;
       tally = record { count = refl; total = refl; first = refl };
       within = h;
       short = omega arith;
@@ -172,35 +160,45 @@ module _ (s : List ℕ) (i : ℕ) {t : Tally} (w : Scanning s t i) where
   says-at : {p : Piece} → p ≡ pieceOf (drop i s) → Says (drop i s) p
   says-at e = subst (Says (drop i s)) (sym e) (says (drop i s))
 
-  on : {r : Tally} (b k : ℕ) → undouble false (drop i s) ≡ push b (undouble false (drop k (drop i s))) → 1 ≤ k
-      → k ≤ length (drop i s) → OneMore t b r → Scanning s r (i + k)
-  on b k e h l m =
+  on : {r : Tally} (b k : ℕ) → Stands b k (drop i s) → 1 ≤ k → OneMore t b r → Scanning s r (i + k)
+  on b k e h m =
       record {
         content = w .content ++ b ∷ [];
-        rest =
-            w .rest
-            ∙ ap (prepend (w .content)) (e ∙ ap (λ l. push b (undouble false l)) (drop-drop k i s))
-            ∙ prepend-push (w .content) b (undouble false (drop (i + k) s));
+        passed =
+            w .passed
+            ∙ ap (λ l. double (w .content) ++ l) (e .front ∙ ap (λ l. doubled b ++ l) (drop-drop k i s))
+            ∙ sym (append-assoc (double (w .content)) (doubled b) (drop (i + k) s))
+            ∙ ap (λ l. l ++ drop (i + k) s) (sym (double-snoc (w .content) b));
         tally = tallies-more (w .content) b (w .tally) m;
-        within = omega (arith, l, w .within, length-drop i s);
+        within =
+            omega (
+              arith,
+              ap length (e .front),
+              length-append (doubled b) (drop k (drop i s)),
+              e .width,
+              w .within,
+              length-drop i s,
+            );
         short = omega (arith, h, w .short, length-append (w .content) (b ∷ []));
       }
 
   pub lone-on : {r : Tally} {b : ℕ} → Lone b ≡ pieceOf (drop i s) → OneMore t b r → Scanning s r (i + 1)
-  lone-on {b = b} e m = on b 1 (says-at e .content) (omega arith) (says-at e .fits) m
+  lone-on {b = b} e m = on b 1 (says-at e) (omega arith) m
 
   pub doubled-on : {r : Tally} → Doubled ≡ pieceOf (drop i s) → OneMore t DLE r → Scanning s r (i + 2)
-  doubled-on e m = on DLE 2 (says-at e .content) (omega arith) (says-at e .fits) m
+  doubled-on e m = on DLE 2 (says-at e) (omega arith) m
 
   -- How a pass ends.
+  rest : undouble false (drop 2 s) ≡ prepend (w .content) (undouble false (drop i s))
+  rest = ap (undouble false) (w .passed) ∙ undouble-behind (w .content) (drop i s)
+
   pub whole : End ≡ pieceOf (drop i s) → ScanOf (undouble false (drop 2 s)) (Whole t)
   whole e =
-      rw (w .rest ∙ ap (prepend (w .content)) (says-at e .content))
-      (subst (λ l. Tallies l t) (sym (append-nil (w .content))) (w .tally))
+      rw (rest ∙ ap (prepend (w .content)) (says-at e)) (subst (λ l. Tallies l t) (sym (append-nil (w .content))) (w .tally))
 
   pub broken : Bad ≡ pieceOf (drop i s) → ScanOf (undouble false (drop 2 s)) Broken
-  broken e = rw (w .rest ∙ ap (prepend (w .content)) (says-at e .content)) tt
+  broken e = rw (rest ∙ ap (prepend (w .content)) (says-at e)) tt
 
   pub unended : length s ≤ i → ScanOf (undouble false (drop 2 s)) Broken
   unfolding undouble
-  unended h = rw (w .rest ∙ ap (λ l. prepend (w .content) (undouble false l)) (drop-of-length-le s h)) tt
+  unended h = rw (rest ∙ ap (λ l. prepend (w .content) (undouble false l)) (drop-of-length-le s h)) tt

@@ -68,7 +68,7 @@ bytes-undouble (b ∷ c) all = go (eqb b DLE) refl (bytes-undouble c)
         bytes-cons b c (alone 0) (ih (λ i. alone (suc i)))
 
 -- One byte read: alone, the first of a pair, and the second of one.
-pub undouble-lone : (b : ℕ) (bs : List ℕ) → eqb b DLE ≡ false → undouble false (b ∷ bs) ≡ push b (undouble false bs)
+undouble-lone : (b : ℕ) (bs : List ℕ) → eqb b DLE ≡ false → undouble false (b ∷ bs) ≡ push b (undouble false bs)
 unfolding undouble
 undouble-lone b bs e = rw (e, undouble)
 
@@ -76,7 +76,7 @@ pub undouble-dle : (b : ℕ) (bs : List ℕ) → eqb b DLE ≡ true → undouble
 unfolding undouble
 undouble-dle b bs e = rw (e, undouble)
 
-pub undouble-pair : (b : ℕ) (bs : List ℕ) → eqb b DLE ≡ true → undouble true (b ∷ bs) ≡ push DLE (undouble false bs)
+undouble-pair : (b : ℕ) (bs : List ℕ) → eqb b DLE ≡ true → undouble true (b ∷ bs) ≡ push DLE (undouble false bs)
 unfolding undouble
 undouble-pair b bs e = rw (e, undouble)
 
@@ -88,16 +88,40 @@ pub undouble-bad : (b : ℕ) (bs : List ℕ) → eqb b DLE ≡ false → eqb b E
 unfolding undouble
 undouble-bad b bs e h = rw (e, h, undouble)
 
+-- A content in front of what is still to be read.
+abbrev pub prepend : List ℕ → Option (List ℕ) → Option (List ℕ)
+prepend c none = none
+prepend c (some d) = some (c ++ d)
+
+prepend-nil : (o : Option (List ℕ)) → prepend [] o ≡ o
+prepend-nil none = refl
+prepend-nil (some d) = refl
+
+prepend-cons : (b : ℕ) (c : List ℕ) (o : Option (List ℕ)) → push b (prepend c o) ≡ prepend (b ∷ c) o
+prepend-cons b c none = refl
+prepend-cons b c (some d) = refl
+
+-- Doubled bytes read as what was doubled, in front of what the bytes behind them read as.
+pub undouble-behind : (c r : List ℕ) → undouble false (double c ++ r) ≡ prepend c (undouble false r)
+unfolding undouble double
+undouble-behind [] r = sym (prepend-nil (undouble false r))
+undouble-behind (b ∷ bs) r = go (undouble-behind bs r) (eqb b DLE) refl
+  where
+    go : undouble false (double bs ++ r) ≡ prepend bs (undouble false r) → (t : Bool) → eqb b DLE ≡ t
+        → undouble false (double (b ∷ bs) ++ r) ≡ prepend (b ∷ bs) (undouble false r)
+    go ih true e =
+        rw (double-dle b bs e)
+        (ap (push DLE) ih
+        ∙ prepend-cons DLE bs (undouble false r)
+        ∙ ap (λ x. prepend (x ∷ bs) (undouble false r)) (sym (eqb-true b DLE e)))
+    go ih false e =
+        rw (double-lone b bs e)
+        (undouble-lone b (double bs ++ r) e ∙ ap (push b) ih ∙ prepend-cons b bs (undouble false r))
+
 -- What ends with 10 03 reads as what was doubled before it.
 pub undouble-double : (c : List ℕ) → undouble false (double c ++ DLE ∷ ETX ∷ []) ≡ some c
-unfolding undouble double
-undouble-double [] = refl
-undouble-double (b ∷ bs) = go (undouble-double bs) (eqb b DLE) refl
-  where
-    go : undouble false (double bs ++ DLE ∷ ETX ∷ []) ≡ some bs → (t : Bool) → eqb b DLE ≡ t
-        → undouble false (double (b ∷ bs) ++ DLE ∷ ETX ∷ []) ≡ some (b ∷ bs)
-    go ih true e = rw (double-dle b bs e) (ap (push DLE) ih ∙ rw (eqb-true b DLE e))
-    go ih false e = rw (double-lone b bs e) (undouble-lone b (double bs ++ DLE ∷ ETX ∷ []) e ∙ ap (push b) ih)
+unfolding undouble
+undouble-double c = undouble-behind c (DLE ∷ ETX ∷ []) ∙ ap some (append-nil c)
 
 push-some : (b : ℕ) (o : Option (List ℕ)) (c : List ℕ) → push b o ≡ some c → (d : List ℕ) × (o ≡ some d) × (c ≡ b ∷ d)
 push-some b none c h = absurd (Option·none-ne-some _ h)
