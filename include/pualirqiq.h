@@ -1,11 +1,13 @@
-/* The C interface of the box: PENKO TP and PDI over serial and UDP, from a tree and cells that the caller lends.
- * The static library is built for x86-64. Of the C library it needs memcpy and memset.
+/* The C interface of the box: PENKO TP and PDI over serial and UDP, and Buslink over CAN, from a tree and cells that the caller
+ * lends. The static library is built for x86-64. Of the C library it needs memcpy and memset.
  *
  * tree    read only, may lie in flash; its form is in docs/FORMATS.md. Every call that gets a tree checks it.
  * cells   one cell of PQ_CELL_SIZE bytes for each property, in the order of the tree. pq_begin_cells makes them; saved ones go
  *         through pq_restore_cells at start. From then on only pq_post, pq_read_sheet and accepted writes change them, and
  *         pq_reading is the way to a word.
  * state   PQ_STATE_SIZE bytes for each stream. pq_begin_stream makes it, and only pq_feed changes it.
+ * records PQ_BUSLINK_SIZE bytes for each Buslink station that is received. pq_begin_buslink makes them, only pq_buslink_receive
+ *         changes them, and pq_buslink_indicator is the way to what they hold.
  * place   a property is named by its place in the tree's list of properties, from 0 on.
  *
  * What holds of every call:
@@ -14,17 +16,18 @@
  *   nothing and touches nothing but what it is lent. Outputs need not be cleared; bytes behind what is put there stay.
  * - Slices. A slice is a pointer and its length in bytes (x, x_len). With length 0 the pointer is not looked at and may be
  *   NULL. No other pointer may be NULL: each number handed back has a place, and path has its 16 bytes.
- * - Overlap. What a call writes (cells, state, out, the numbers handed back) must not overlap anything else that it is lent. So
- *   a request is not answered in place: out is never the buffer of the request, string, datagram or bytes. And no number handed
- *   back lies in a buffer, or where another one lies.
+ * - Overlap. What a call writes (cells, state, records, out, the numbers handed back) must not overlap anything else that it is
+ *   lent. So a request is not answered in place: out is never the buffer of the request, string, datagram or bytes. And no number
+ *   handed back lies in a buffer, or where another one lies.
  * - Interleaving. Until a call returns, nothing else may write what it is lent or read what it writes. So an interrupt must not
  *   feed while the main loop is in a call on the same state, nor post while it is in one on the same cells: mask it, or queue
  *   bytes and readings and call from one context, as example/main.c does. Calls on different buffers may run at once, over one
  *   tree too: the library has no data of its own.
- * - Refusals. Every number but 0 and 255 is one. It leaves cells, state and outputs as they were; lengths, offsets and counts
- *   that are handed back are 0, and the action is PQ_NO_ACTION; what is read out of something (a word, the fields of a request)
- *   is left as it was. Three exceptions: the serving calls write a reply with 9 to 13, pq_feed takes the bytes of a frame that it
- *   refuses, and pq_list and pq_write_sheet tell with 8 how much room they need.
+ * - Refusals. Every number but 0 and 255 is one. It leaves cells, state, records and outputs as they were; lengths, offsets and
+ *   counts that are handed back are 0, and so are an identifier and a mask of usable indicators; the action is PQ_NO_ACTION; what
+ *   is read out of something (a word, the fields of a request, an indicator) is left as it was. Three exceptions: the serving
+ *   calls write a reply with 9 to 13, pq_feed takes the bytes of a frame that it refuses, and pq_list and pq_write_sheet tell with
+ *   8 how much room they need.
  * - Numbers. Those that a call may return stand with it, in the order in which they are tested.
  */
 #ifndef PUALIRQIQ_H
@@ -34,8 +37,8 @@
 #include <stdint.h>
 
 /* Grows when the interface changes. 1: with pq_word and pq_is_ready. 2: pq_reading and pq_restore_cells in their place.
- * 3: pq_list. 4: pq_feed passes over stray 10h. 5: pq_write_sheet and pq_read_sheet. */
-#define PQ_VERSION 5
+ * 3: pq_list. 4: pq_feed passes over stray 10h. 5: pq_write_sheet and pq_read_sheet. 6: Buslink. */
+#define PQ_VERSION 6
 
 /* In C, an array of at least so many elements: compilers warn of a shorter one. */
 #if defined(__STDC_VERSION__) && __STDC_VERSION__ >= 199901L && !defined(__cplusplus)
@@ -53,17 +56,19 @@ enum {
     PQ_STATE_SIZE = 261,  /* a stream state */
     PQ_CELL_SIZE = 5,     /* a cell */
     PQ_PATH_SIZE = 16,    /* the longest path */
+    PQ_BUSLINK_SIZE = 60, /* the records of a Buslink station */
     PQ_ROOM_DATA = 256,   /* the least room of an output for data */
     PQ_ROOM_UDP = 260,    /* .. for a datagram */
     PQ_ROOM_SERIAL = 520, /* .. for a serial string */
     PQ_ROOM_LIST = 17664, /* room for every listing: none is longer */
-    PQ_ROOM_SHEET = 4608  /* room for every sheet: none is longer */
+    PQ_ROOM_SHEET = 4608, /* room for every sheet: none is longer */
+    PQ_ROOM_BUSLINK = 8   /* the data of a Buslink frame, and the least room for it */
 };
 
-/* Numbers returned (document 01; 17 and 18: document 02, section 3). */
+/* Numbers returned (document 01; 17 and 18: document 02, section 3; 19 and 20: section 5). */
 enum {
     PQ_DONE = 0,
-    PQ_UNSOUND = 1,          /* tree, cells or state have no sound form, or do not fit each other */
+    PQ_UNSOUND = 1,          /* tree, cells, state or records have no sound form, or do not fit each other */
     PQ_NO_PREAMBLE = 2,      /* a string does not begin with 10 02, or a datagram not with four zeros */
     PQ_BAD_PAIR = 3,         /* a wrong byte behind a 10h, or a string does not end with its first 10 03 */
     PQ_TOO_SHORT = 4,        /* no data */
@@ -80,6 +85,8 @@ enum {
     PQ_NOT_LIVE = 14,        /* a posting to a property that does not exist or is not live */
     PQ_BAD_SHEET = 17,       /* no sheet of this tree, or labels of settings that cannot be written */
     PQ_NOT_IN_RANGE = 18,    /* a number on a sheet, or a word to be written there, is out of range or of 32 bits */
+    PQ_BAD_IDENTIFIER = 19,  /* Buslink: no such station, type or indicator; received, not the station's identifier */
+    PQ_BAD_LENGTH = 20,      /* Buslink: a frame of the station with not 8 bytes of data */
     PQ_NO_FRAME = 255        /* pq_feed: all bytes were taken and no frame ended; no refusal */
 };
 
@@ -218,6 +225,56 @@ uint8_t pq_serve_serial(const uint8_t *tree, size_t tree_len, uint8_t *cells, si
 uint8_t pq_serve_udp(const uint8_t *tree, size_t tree_len, uint8_t *cells, size_t cells_len, uint8_t host,
     const uint8_t *datagram, size_t datagram_len, uint8_t *out, size_t out_len, size_t *len, uint8_t *action);
 
+/* ---- Buslink over CAN ----
+ * A station is a base address of 1 to 8 and a sub address of 1 to 5. Its indicators 1 to 15 are the first 15 live properties of the
+ * tree, in the order of its list. A frame of type 2 to 8 carries two of them, 2 * type - 3 and the next; type 9 carries indicator
+ * 15. Its identifier has 29 bits (an extended CAN frame): 15550000h, the type in bits 8 to 11, and 5 * (base - 1) + sub.
+ *
+ * An indicator is a value of 24 bits, signed, a format and a status. The format is the decimals code of the probe (bits 2 to 0 of
+ * its format); the value is ten times its word, or the word itself where the code is 7, raw data. The status:
+ *
+ *   a ready probe, its value fits      PQ_BUSLINK_AVAILABLE
+ *   a ready probe, beyond 24 bits      PQ_BUSLINK_AVAILABLE and PQ_BUSLINK_ERROR, and the value is 0
+ *   a probe that is not ready          0, and the value is 0
+ *   no probe                           0; value and format are 0 too
+ *
+ * A value counts only where PQ_BUSLINK_IS_USABLE(status). */
+
+enum {
+    PQ_BUSLINK_AVAILABLE = 0x80,
+    PQ_BUSLINK_ERROR = 0x40,
+    PQ_BUSLINK_ZERO = 0x20,   /* these three are never sent here, and are kept where they are received */
+    PQ_BUSLINK_STABLE = 0x10,
+    PQ_BUSLINK_TARE = 0x08
+};
+
+#define PQ_BUSLINK_IS_USABLE(status) (((status) & (PQ_BUSLINK_AVAILABLE | PQ_BUSLINK_ERROR)) == PQ_BUSLINK_AVAILABLE)
+
+/* A station's frame of a type, from a tree and its cells: with 0 its 8 bytes of data stand at the front of out, and *identifier is
+ * its identifier; else *identifier is 0. Send types 2 to 9 in turn; a frame that carries no probe is all zero.
+ * 1: as pq_check. 8: out_len is under PQ_ROOM_BUSLINK. 19: base, sub or type out of bounds. 0. */
+uint8_t pq_buslink_send(const uint8_t *tree, size_t tree_len, const uint8_t *cells, size_t cells_len, uint8_t base, uint8_t sub,
+    uint8_t type, uint8_t *out, size_t out_len, uint32_t *identifier);
+
+/* The records of a station that is to be received, before any frame: nothing is available.
+ * 1: records_len is not PQ_BUSLINK_SIZE. 0. */
+uint8_t pq_begin_buslink(uint8_t *records, size_t records_len);
+
+/* A frame received for the station base-sub: the indicators that it carries are stored, usable or not, and no other. In *usable bit
+ * n - 1 is set for each indicator n that it carried and that is usable. Whether a frame is an extended one, and how many
+ * bytes it has, is for the CAN driver to tell; identifier is the 29 bits alone, without a driver's flags above them (SocketCAN's
+ * CAN_EFF_FLAG is one).
+ * 1: records_len is not PQ_BUSLINK_SIZE. 19: base or sub out of bounds, or not the identifier of this station and a type 2 to 9: on
+ * a bus with others this is met all the time, and the frame is theirs. 20: data_len is not 8. *usable is 0 then. 0. */
+uint8_t pq_buslink_receive(uint8_t *records, size_t records_len, uint8_t base, uint8_t sub, uint32_t identifier,
+    const uint8_t *data, size_t data_len, uint16_t *usable);
+
+/* What was received last of an indicator. Nothing ages: a station that fell silent shows in no frames, not here.
+ * 1: records_len is not PQ_BUSLINK_SIZE. 19: indicator is not 1 to 15. *value, *status and *format are left as they were.
+ * 0: they are the indicator's; *status has the five bits as they stand in its fourth byte, of which F8h is the mask. */
+uint8_t pq_buslink_indicator(const uint8_t *records, size_t records_len, uint8_t indicator, int32_t *value, uint8_t *status,
+    uint8_t *format);
+
 /* ---- Frames and datagrams ----
  * With 0, *len is the length of what stands at the front of out; else it is 0. */
 
@@ -265,14 +322,16 @@ uint8_t pq_write_udp(uint8_t op, const uint8_t *path, size_t path_len, uint8_t i
  * The most that a call needs, in bytes, on x86-64 (python3 tests/stack.py target/staticlib/libpualirqiq.a): with its return
  * address, and without its arguments, which are the caller's, and without what memcpy and memset take themselves.
  *
- *   pq_begin_cells     248      pq_frame            16      pq_restore_cells   264
- *   pq_begin_stream     24      pq_list           4720      pq_serve_data      424
- *   pq_cells_size      232      pq_post            280      pq_serve_serial    696
- *   pq_check           248      pq_read_frame      105      pq_serve_udp       424
- *   pq_check_tree      216      pq_read_serial     232      pq_state_size        8
- *   pq_datagram          8      pq_read_sheet      408      pq_write_serial    184
- *   pq_datagram_data     8      pq_read_udp        184      pq_write_sheet    1024
- *   pq_feed             48      pq_reading         280      pq_write_udp       184
+ *   pq_begin_buslink         8      pq_datagram_data         8      pq_restore_cells       264
+ *   pq_begin_cells         248      pq_feed                 48      pq_serve_data          424
+ *   pq_begin_stream         24      pq_frame                16      pq_serve_serial        696
+ *   pq_buslink_indicator     8      pq_list               4720      pq_serve_udp           424
+ *   pq_buslink_receive       8      pq_post                280      pq_state_size            8
+ *   pq_buslink_send        360      pq_read_frame          105      pq_write_serial        184
+ *   pq_cells_size          232      pq_read_serial         232      pq_write_sheet        1024
+ *   pq_check               248      pq_read_sheet          408      pq_write_udp           184
+ *   pq_check_tree          216      pq_read_udp            184
+ *   pq_datagram              8      pq_reading             280
  *
  * Only pq_list and pq_write_sheet recurse: a frame for each digit of a number, and pq_list one for each level of the tree, of
  * which there are at most 16. What stands here is for 16 levels and 10 digits. No call takes stack by the length of what it is

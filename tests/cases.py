@@ -259,6 +259,54 @@ def is_writable(tree):
     return len(set(labels)) == len(labels) and not any(b"=" in label for label in labels)
 
 
+# The records that a frame is received into: no two bytes in a row are alike.
+RECORDS = bytes((37 * k + 11) % 256 for k in range(60))
+
+
+def indicator(p, word, ready):
+    """02, section 5: what a probe sends."""
+    code = p[5] % 8
+    value = number_of(p, word) * (1 if code == 7 else 10)
+    if not ready:
+        return bytes([0, 0, 0, code])
+    if not -(1 << 23) <= value < 1 << 23:
+        return bytes([0, 0, 0, 0xC0 | code])
+    return (value % (1 << 24)).to_bytes(3, "little") + bytes([0x80 | code])
+
+
+def bus_identifier(base, sub, kind):
+    """000, 4.2; 0 where there is none."""
+    stations = [(b, s) for b in range(1, 9) for s in range(1, 6)]
+    if (base, sub) not in stations or kind not in range(2, 10):
+        return 0
+    return 0x15550001 + (kind << 8) + stations.index((base, sub))
+
+
+def bus_data(tree, kind):
+    """000, 4.3: the eight bytes of a type."""
+    probes = [indicator(p, *cell) for p, cell in zip(tree.properties, tree.cells) if p[4] & 0x2000]
+    sent = (probes + [bytes(4)] * 15)[:15] + [bytes(4)]
+    return sent[2 * kind - 4] + sent[2 * kind - 3]
+
+
+def bus_receive(records, base, sub, received, data):
+    """The number, the records afterwards and the mask of the usable ones."""
+    kinds = [kind for kind in range(2, 10) if received and bus_identifier(base, sub, kind) == received]
+    if len(records) != 60 or not kinds or len(data) != 8:
+        return 1 if len(records) != 60 else 20 if kinds else 19, records, 0
+    usable = 0
+    for place in range(2 * kinds[0] - 4, min(2 * kinds[0] - 2, 15)):
+        four = data[4 * (place % 2) :][:4]
+        records = records[: 4 * place] + four + records[4 * place + 4 :]
+        usable += (four[3] & 0xC0 == 0x80) << place
+    return 0, records, usable
+
+
+def taken_apart(four):
+    """000, 4.10: value as a word, status, format."""
+    return int.from_bytes(four[:3], "little", signed=True).to_bytes(4, "big", signed=True) + bytes([four[3] & 0xF8, four[3] & 7])
+
+
 def sheet(tree):
     """The number and the sheet: 17, 18 or 0."""
     numbers = [number_of(p, tree.cells[place][0]) for place, p in settings(tree)]
@@ -292,6 +340,17 @@ def cold():
          (0, 1, 0, 0, 0x2001, 0x8000, b"Alarm", [b"C"], 77, 1), (0, 1, 1, 64, 3, 0x8000, b"", [b""], 64, 0),
          (0, 1, 0, 0, 2, 0, b"Reset=all", [b""], 9, 0), (0, 2, 0, 1, 3, 0x9080, b"Mode", [b"a", b"b"], 1, 1),
          (0, 1, 0, 0, 3, 0, b"Serial", [b""], 2**32 - 1, 0)],
+    )
+
+
+# 02, section 5: probes at and beyond 24 bits, signed and not, with a setting between them: the least value that ten times fits, a raw one
+# that is one too low, an unsigned word that would be negative, and a word of type 2, which has no sign whatever its format.
+def extremes():
+    probe = lambda word, kind, form, options: (0, kind, 0, len(options) - 1, 0x2001, form, b"", options, word, 1)
+    return Tree(
+        [(0, b"")],
+        [probe(2**32 - 838860, 1, 0x8000, [b""]), (0, 1, 0, 9, 3, 0, b"", [b""], 1, 0), probe(2**32 - 8388609, 1, 0x8007, [b""]),
+         probe(2**31, 1, 0x0003, [b""]), probe(2**32 - 1, 2, 0x8007, [b"a", b"b"])],
     )
 
 
@@ -501,6 +560,31 @@ CASES = [
     ("list/0 1020", "list_penko"),
     ("list/1", "list_unsound"),
     ("list/8", "list_no_room"),
+    # 02, section 5: frames sent and received, and indicators asked for.
+    ("bus/0", "bus_send", 1, 2, 2),
+    ("bus/0 no probes", "bus_send", 8, 5, 8),
+    ("bus/0 type 9", "bus_send", 3, 1, 9),
+    ("bus/0 signed, raw, beyond", "bus_send_extremes", 2, 5, 2),
+    ("bus/0 unsigned, beyond", "bus_send_extremes", 2, 5, 3),
+    ("bus/1", "bus_send_unsound", 9, 2, 2),
+    ("bus/8 before 19", "bus_send_no_room", 9, 2, 2),
+    ("bus/19 base 9", "bus_send", 9, 2, 2),
+    ("bus/19 8-6", "bus_send", 8, 6, 9),
+    ("bus/19 type 1", "bus_send", 1, 2, 1),
+    ("bus/19 type 10", "bus_send", 1, 2, 10),
+    ("receive/0", "bus_receive", 1, 2, 0x15550202, bytes.fromhex("0852008200000002")),
+    ("receive/0 ERROR, and all status bits", "bus_receive", 2, 4, 0x15550809, bytes.fromhex("000080C0FFFFFFBF")),
+    ("receive/0 type 9", "bus_receive", 8, 5, 0x15550928, bytes.fromhex("FFFF7F8FFFFFFF8F")),
+    ("receive/1", "bus_receive_unsound", 1, 2, 0x15550202, bytes(7)),
+    ("receive/19 another station", "bus_receive", 1, 3, 0x15550202, bytes(7)),
+    ("receive/19 type 1", "bus_receive", 1, 2, 0x15550102, bytes(8)),
+    ("receive/19 a bit above", "bus_receive", 1, 2, 0x35550202, bytes(8)),
+    ("receive/20", "bus_receive", 1, 2, 0x15550202, bytes(9)),
+    ("ask/0", "bus_ask", 1),
+    ("ask/0 the last", "bus_ask", 15),
+    ("ask/1", "bus_ask_unsound", 16),
+    ("ask/19 0", "bus_ask", 0),
+    ("ask/19 16", "bus_ask", 16),
     # 02, section 3: sheets, with just the room that they take and with a byte less.
     ("sheet/0", "sheet"),
     ("sheet/0 signed", "sheet_cold"),
@@ -568,6 +652,8 @@ SAYS = {
     "sheet/0": "0 417665726167653D340A" "526174653D300A",
     "sheet/0 signed": "0 4F66667365743D2D350A" "416C61726D3D2D34300A" "3D36340A" "4D6F64653D310A" "53657269616C3D343239343936373239350A",
     "sheet/8": "8 ",
+    "bus/0": "0 0852008200000002",
+    "bus/19 8-6": "19 ",
     "load/0": "0 0000083401" "0000213400" "0000004000" "0000000100" "0000000000",
     "load/18 2^32 + 4": "18 0000083401" "0000213400" "0000000400" "0000000000" "0000000000",
     "sum/255": "0 1002FF00001003",
@@ -609,8 +695,12 @@ LOADS = {
 }
 
 
+# Frames sent: of which tree.
+BUSES = {"bus_send": bench, "bus_send_extremes": extremes}
+
+
 def tree_of(base):
-    return {"limits": limits, "penko": penko, "list_penko": penko, **SHEETS, **LOADS}.get(base, bench)()
+    return {"limits": limits, **BUSES, "penko": penko, "list_penko": penko, **SHEETS, **LOADS}.get(base, bench)()
 
 
 def answers(call, args):
@@ -643,6 +733,17 @@ def answers(call, args):
         number, text = (1, b"") if unsound else sheet(tree)
         number = 8 if no_room else number
         return [(number, b"" if number else text), (number, len(text).to_bytes(4, "big"))]
+    if base in BUSES:
+        number = 1 if unsound else 8 if no_room else 0 if bus_identifier(*args) else 19
+        sent = b"" if number else bus_data(tree, args[2])
+        return [(number, sent), (number, (0 if number else bus_identifier(*args)).to_bytes(4, "big"))]
+    if base == "bus_receive":
+        number, table, usable = bus_receive(RECORDS[: 60 - unsound], *args)
+        apart = bytes(90) if unsound else b"".join(taken_apart(table[4 * k :]) for k in range(15))
+        return [(number, apart), (number, table), (number, usable.to_bytes(4, "big"))]
+    if base == "bus_ask":
+        number = 1 if unsound else 0 if args[0] in range(1, 16) else 19
+        return [(number, bytes(6) if number else taken_apart(RECORDS[4 * args[0] - 4 :]))]
     if base in LOADS:
         number, lent = (1, bytes(24)) if unsound else (load(tree, args[0]), tree.cell_bytes())
         return [(number, lent)] + [sheet(tree)] * (base == "load_cold_back")
@@ -713,6 +814,12 @@ CALLS = {
     "sheet": (0x60, 0, ()),
     "sheet_length": (0x61, 0, ()),
     "load": (0x62, 520, ()),
+    "bus_send": (0x70, 8, ("address", "mark", "index")),
+    "bus_identifier": (0x71, 8, ("address", "mark", "index")),
+    "bus_table": (0x72, 520, ("address", "mark", "value")),
+    "bus_usable": (0x73, 520, ("address", "mark", "value")),
+    "bus_receive": (0x74, 520, ("address", "mark", "value")),
+    "bus_ask": (0x75, 520, ("index",)),
 }
 
 
@@ -724,6 +831,10 @@ def steps(name, base, args):
         return [(name, "list", []), ("  length", "list_length", [])]
     if base in SHEETS:
         return [(name, "sheet", []), ("  length", "sheet_length", [])]
+    if base in BUSES:
+        return [(name, "bus_send", args), ("  identifier", "bus_identifier", args)]
+    if base == "bus_receive":
+        return [(name, "bus_receive", args), ("  table", "bus_table", args), ("  usable", "bus_usable", args)]
     if base in LOADS:
         return [(name, "load", args)] + [(name, "sheet", [])] * (base == "load_cold_back")
     if base == "feed_twice":
@@ -747,8 +858,10 @@ def records(name, call, args):
     tree, lent = b"", b""
     if base in ("feed", "feed_twice"):
         lent = bytes([4 if unsound else 0]) * 261
-    elif base in ("data", "twice", "limits", "penko", "serial", "udp", "post", "restore", "reading", *SHEETS, *LOADS):
+    elif base in ("data", "twice", "limits", "penko", "serial", "udp", "post", "restore", "reading", *SHEETS, *BUSES, *LOADS):
         tree, lent = tree_of(base).form(), bytes(24) if unsound else tree_of(base).cell_bytes()
+    elif base in ("bus_receive", "bus_ask"):
+        lent = RECORDS[: 60 - unsound]
     elif base in ("list", "list_penko"):
         tree = tree_of(base).form()[: -1 if unsound else None]
     for k, (title, step, values) in enumerate(steps(name, base, args)):

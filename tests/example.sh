@@ -1,6 +1,6 @@
 #!/usr/bin/env bash
-# Builds example/main.c with the static library and runs it on a few exchanges; holds the library to what the header says of it:
-# what it needs of C, that it has no data of its own, slices of length 0, and stack.
+# Builds the programs of example/ with the static library and runs them, main.c on a few exchanges and buslink.c on frames; holds
+# the library to what the header says of it: what it needs of C, that it has no data of its own, slices of length 0, and stack.
 set -e
 cd "$(dirname "$0")/.."
 library=target/staticlib/libpualirqiq.a
@@ -22,6 +22,8 @@ fi
 cc -std=c99 $strict -O2 -o target/example example/main.c $library
 sed 's/"Average=4/"Average=0/' example/main.c | cc -std=c99 $strict -O2 -o target/refused -x c - -x none $library
 python3 tests/example.py target/example target/refused
+cc -std=c99 $strict -O2 -o target/buslink example/buslink.c $library
+python3 tests/buslink.py target/buslink
 cc -std=c99 $strict -O2 -Wl,--wrap=memcpy,--wrap=memset -o target/null tests/null.c $library
 target/null
 python3 tests/stack.py $library include/pualirqiq.h

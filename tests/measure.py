@@ -19,6 +19,9 @@ WHAT = {
     "frame-20": "`pq_frame`, 20 bytes",
     "frame-256": "`pq_frame`, 256 bytes, the same each time",
     "frame-varied": "`pq_frame`, 256 bytes, 256 drawn strings by turns, one byte in eight 10h",
+    "buslink_send-bench": "`pq_buslink_send`, type 2, bench tree",
+    "buslink_send-largest": "`pq_buslink_send`, type 9, largest tree",
+    "buslink_receive": "`pq_buslink_receive`, the bench tree's type 2",
 }
 
 HEAD = """# What the calls cost
@@ -66,6 +69,8 @@ TAIL = """
   pairs are most of the call; the second implementation sorts the labels in a list that it allocates. Reading goes over the sheet
   twice, since nothing may be stored before all of it was judged. Writing has room for every sheet here; with less the lines are
   made twice, first to count.
+- `pq_buslink_send` looks for its two probes in the list of properties from the front, at most once each; the check is most of the call.
+  `pq_buslink_receive` goes by 8 bytes, of which it copies each by itself; the second implementation copies four at a time.
 - The check of the tree is most of a row with a tree, listings and sheets apart (two thirds or more on the bench tree): about 6 instructions
   for a byte of text (`soundness::texts::characters_end`), and 31 for the numbers of a property (`tree::record::read_fields`).
 """

@@ -1,5 +1,5 @@
 /* Slices of length 0: every export with NULL for each of its slices, and again with another pointer. The numbers are those of
- * document 01, and neither memcpy nor memset is handed NULL: link with --wrap=memcpy and --wrap=memset. */
+ * documents 01 and 02, and neither memcpy nor memset is handed NULL: link with --wrap=memcpy and --wrap=memset. */
 #include <stdio.h>
 #include <stdlib.h>
 #include "pualirqiq.h"
@@ -12,8 +12,11 @@ static const uint8_t wide[] = {1, 1, 0, 0, 21, 0, 1, 0, 0, 0, 0, 0, 0, 0, 0, 0x2
 static const uint8_t set[] = {1, 1, 0, 0, 21, 0, 1, 0, 0, 0, 0, 0, 0, 0, 0, 0, 0x03, 0, 0, 0, 23, 'B', 0, 'P', 0, 'C', 0};
 
 static uint8_t state[PQ_STATE_SIZE], cell[PQ_CELL_SIZE], out[PQ_ROOM_SERIAL], path[PQ_PATH_SIZE], op, index, action;
+static uint8_t records[PQ_BUSLINK_SIZE], status, format;
 static size_t len, taken, offset;
-static uint32_t word;
+static uint32_t word, identifier;
+static uint16_t usable;
+static int32_t value;
 static unsigned calls, failed;
 
 void *__real_memcpy(void *to, const void *from, size_t n);
@@ -132,6 +135,24 @@ static void on_sheets(uint8_t *none)
     EXPECT(0, cell[3]);
 }
 
+static void on_buslink(uint8_t *none)
+{
+    EXPECT(1, pq_buslink_send(none, 0, none, 0, 1, 2, 2, none, 0, &identifier));
+    EXPECT(1, pq_buslink_send(wide, sizeof wide, none, 0, 1, 2, 2, out, sizeof out, &identifier));
+    EXPECT(8, pq_buslink_send(tree, sizeof tree, none, 0, 1, 2, 2, none, 0, &identifier));
+    EXPECT(0, identifier);
+    /* No probes: the frame is there all the same. */
+    EXPECT(0, pq_buslink_send(tree, sizeof tree, none, 0, 1, 2, 2, out, sizeof out, &identifier));
+    EXPECT(0x15550202, identifier);
+    EXPECT(1, pq_begin_buslink(none, 0));
+    EXPECT(0, pq_begin_buslink(records, sizeof records));
+    EXPECT(1, pq_buslink_receive(none, 0, 1, 2, 0x15550202, none, 0, &usable));
+    EXPECT(19, pq_buslink_receive(records, sizeof records, 1, 2, 0x15550203, none, 0, &usable));
+    EXPECT(20, pq_buslink_receive(records, sizeof records, 1, 2, 0x15550202, none, 0, &usable));
+    EXPECT(0, usable);
+    EXPECT(1, pq_buslink_indicator(none, 0, 1, &value, &status, &format));
+}
+
 static void on_serving(uint8_t *none)
 {
     static const uint8_t detect[] = {0xB4, 0}, node[] = {0xB4, 1, 1}, read[] = {0xB4, 3, 1, 1};
@@ -186,6 +207,7 @@ int main(void)
         on_cells(pointers[i]);
         on_listings(pointers[i]);
         on_sheets(pointers[i]);
+        on_buslink(pointers[i]);
         on_serving(pointers[i]);
         on_frames(pointers[i]);
         on_requests(pointers[i]);

@@ -174,7 +174,7 @@ def need(functions, name, above=()):
 
 # The table, in three columns, as it stands in a comment of the header.
 def table(needs):
-    cells = [f"{name:<18}{number:>4}" for name, number in sorted(needs.items())]
+    cells = [f"{name:<22}{number:>4}" for name, number in sorted(needs.items())]
     rows = -(-len(cells) // 3)
     return "".join(" *   " + "      ".join(cells[row::rows]) + "\n" for row in range(rows))
 

@@ -6,12 +6,10 @@ mod serve;
 mod sheets;
 mod wire;
 
+use bus_calls::Bus;
 use frame::Written;
 ghost use Prim.Native.Nat.{_≤_};
 ghost use lib.ListN.{length};
-
-// Stands for the length where a kind is not known.
-pub(crate) const UNKNOWN: usize = usize::MAX;
 
 // The numbers of a call: its kind, the room for its output and the size of what is lent, and its arguments.
 pub struct Numbers {
@@ -22,17 +20,6 @@ pub struct Numbers {
     pub mark: u8,
     pub index: u8,
     pub value: u32,
-}
-
-// A number of 32 bits, put at a place of an output, the high byte first. Returns the next place.
-pub(crate) fn put_word(n: u32, out: &mut [u8], at: usize) -> usize {
-    let bytes = [
-        (n / 16777216 % 256) as u8,
-        (n / 65536 % 256) as u8,
-        (n / 256 % 256) as u8,
-        (n % 256) as u8,
-    ];
-    frame::buffer::put_all(&bytes, out, at)
 }
 
 // What a call gave: whether its kind is known, the number, and how many bytes it wrote to the front of the output.
@@ -59,7 +46,16 @@ fn call(n: Numbers, string: &[u8], tree: &[u8], lent: &mut [u8], out: &mut [u8])
     if n.kind < 0x60 {
         return listings::run(n, tree, out);
     }
-    sheets::run(n, string, tree, lent, out)
+    if n.kind < 0x70 {
+        return sheets::run(n, string, tree, lent, out);
+    }
+    let bus = Bus {
+        base: n.address,
+        sub: n.mark,
+        index: n.index,
+        identifier: n.value,
+    };
+    bus_calls::run(n.kind, bus, string, tree, lent, out)
 }
 
 // The same, where the kind is known. What it tells lies in the output.

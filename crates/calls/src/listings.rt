@@ -5,7 +5,7 @@
 //
 // It takes two lines. In 50 the bytes are the listing, and none where it is refused; in 51 they are those of the length told.
 use super::Numbers;
-use super::UNKNOWN;
+use bus_calls::UNKNOWN;
 use frame::Written;
 use protocol::DONE;
 
@@ -24,7 +24,7 @@ fn length(tree: &[u8], out: &mut [u8]) -> Written {
     let listed = listing::list(tree, out);
     Written {
         number: listed.number,
-        len: super::put_word((listed.len % 65536) as u32, out, 0),
+        len: bus_calls::put_word((listed.len % 65536) as u32, out, 0),
     }
 }
 

@@ -6,7 +6,7 @@
 //
 // In 40 and 41 the bytes are those of all cells afterwards, in 42 those of the word.
 use super::Numbers;
-use super::UNKNOWN;
+use bus_calls::UNKNOWN;
 use cells::Reading;
 use frame::Written;
 use frame::buffer;
@@ -38,7 +38,7 @@ fn reading(n: Numbers, tree: &[u8], cells: &[u8], out: &mut [u8]) -> Written {
     };
     Written {
         number: DONE,
-        len: super::put_word(w, out, 0),
+        len: bus_calls::put_word(w, out, 0),
     }
 }
 

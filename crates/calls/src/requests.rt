@@ -10,7 +10,7 @@
 // A request that was read takes two lines. In 20 and 22 the bytes are the 16 of the path; in 21 and 23 the number is the op, and
 // the bytes are the path's length, the index and the value.
 use super::Numbers;
-use super::UNKNOWN;
+use bus_calls::UNKNOWN;
 use frame::Written;
 use frame::buffer;
 use protocol::PropertyIndex;
@@ -29,7 +29,7 @@ fn fields_of(asked: Asked, out: &mut [u8]) -> Written {
     let at = buffer::put_all(&[(asked.len % 256) as u8, index.0], out, 0);
     Written {
         number: asked.op,
-        len: super::put_word(asked.value, out, at),
+        len: bus_calls::put_word(asked.value, out, at),
     }
 }
 

@@ -4,8 +4,8 @@
 //     31  a serial string  address, mark: the same; string
 //     32  a datagram       mark: the same; string: the datagram
 use super::Numbers;
-use super::UNKNOWN;
 use answer::Served;
+use bus_calls::UNKNOWN;
 use frame::Written;
 
 fn reply_of(served: Served) -> Written {

@@ -7,7 +7,7 @@
 // Writing takes two lines. In 60 the bytes are the sheet, and none where it is refused; in 61 they are those of the length told. In
 // 62 they are those of all cells afterwards.
 use super::Numbers;
-use super::UNKNOWN;
+use bus_calls::UNKNOWN;
 use frame::Written;
 use frame::buffer;
 use protocol::DONE;
@@ -27,7 +27,7 @@ fn length(tree: &[u8], cells: &[u8], out: &mut [u8]) -> Written {
     let sheet = sheet::write_sheet(tree, cells, out);
     Written {
         number: sheet.number,
-        len: super::put_word((sheet.len % 65536) as u32, out, 0),
+        len: bus_calls::put_word((sheet.len % 65536) as u32, out, 0),
     }
 }
 

@@ -6,7 +6,7 @@
 //     13  a datagram written  string: its data
 //     14  a delivery          address; string: the bytes; lent: the state of the stream reader
 use super::Numbers;
-use super::UNKNOWN;
+use bus_calls::UNKNOWN;
 use frame::Written;
 
 fn datagram(d: &[u8], out: &mut [u8]) -> Written {

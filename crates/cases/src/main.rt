@@ -1,4 +1,4 @@
-// The cases of documents 01, 02 and 003. Each is a line of standard input and gives a line of output: name, number, bytes.
+// The cases of documents 01, 02, 003 and 000. Each is a line of standard input and gives a line of output: name, number, bytes.
 // tests/cases.py writes both, and works out what this program must print.
 //
 // A line has five fields with `|` between them: the name of the case, then four in hex with capital letters.
@@ -6,8 +6,8 @@
 //     name|numbers|string|tree|lent
 //
 // The numbers are 12 bytes: kind, room for the output (two bytes), size of what is lent (two bytes), address, mark, index,
-// value (four bytes), each high byte first. Lent are cells or a stream state; where the field is empty, they are as the line
-// before left them. The kinds stand in the files of crates/calls/src. What a kind does not need is 0 or empty.
+// value (four bytes), each high byte first. Lent are cells, a stream state or records; where the field is empty, they are as the line
+// before left them. The kinds stand in the files of crates/calls/src and crates/bus_calls/src. What a kind does not need is 0 or empty.
 // A line that is not of this form, or whose kind is not known, prints `broken` and is the last.
 mod record;
 mod show;

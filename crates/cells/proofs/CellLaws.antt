@@ -2,16 +2,16 @@
 -- Assumes nothing.
 use Prim.Native.Nat.{ℕ, zero, suc, _+_, _*_, _/_, _%_, _^_, _<_, _≤_}
 use native.Mathlib.Omega.{arith}
-use native.Mathlib.Nat.{not-suc-le-zero, zero-add, add-zero, add-assoc}
+use native.Mathlib.Nat.{not-suc-le-zero, zero-add, add-zero}
 use native.Mathlib.Decide.{decLt}
 use mathlib.Core.Path.{_≡_, refl, sym, ap, ap₂, subst, _∙_}
 use mathlib.Core.Bool.{Bool, true, false, cond, _&&_, false≢true, and-false}
-use mathlib.Core.List.{List, [], _∷_, _++_, append-assoc}
+use mathlib.Core.List.{List, [], _∷_, _++_}
 use mathlib.Core.Option.{some, Option·some-injective}
 use borrow.Author.Tests.{ltb-true, lt-ltb, le-ltb}
 use borrow.Author.Count.{below-more}
-use lib.ListN.{length, getD, take, drop, set, length-drop, length-set, List·getD-eq-default}
-use lib.Seq.{getD-drop, getD-append-add, take-append-add, drop-append-add, set-out, set-set, getD-set-same, sets-eq}
+use lib.ListN.{length, getD, drop, set, length-drop, length-set, List·getD-eq-default}
+use lib.Seq.{getD-drop, getD-append-add, set-out, set-set, getD-set-same}
 use lib.Dec.{eqb, ltb}
 use Rattle.protocol.specs.Numbers.{wordEnd, done, unsound, notLive}
 use Rattle.protocol.specs.Bytes.{Bytes, every, word, number}
@@ -19,7 +19,7 @@ use Rattle.protocol.specs.Buffer.{putAt}
 use Rattle.protocol.specs.Tree.{Property, Tree, Cell, cellIn, cellsSound, isLive, propertyIn, posted, post}
 use Rattle.protocol.proofs.TestLaws.{and-left, and-right, and-both}
 use Rattle.protocol.proofs.ListLaws.{number-word, word-number, bytes-cons, bytes-drop, bytes-none, bytes-append}
-use Rattle.protocol.proofs.BufferLaws.{set-put, length-put}
+use Rattle.protocol.proofs.BufferLaws.{set-put, put-four, put-behind, length-put}
 use Rattle.tree.specs.Seen.{wordAt, recordsFrom, same, seen}
 use Rattle.soundness.specs.Sound.{isTree}
 use Rattle.cells.specs.Cells.{cellSize, markOf, cellForm, cellsForm, cellSeen, cellsIn, hasCells, cellsOf, withWord, withMark}
@@ -232,14 +232,6 @@ unfolding cellSeen
 read-mark bs k h =
     sym (ap (λ c. c .ready) (cell-at bs k h) ∙ ap (λ b. eqb b 1) (getD-drop (k * cellSize) bs 4 0))
 
--- Bytes put behind others.
-put-behind : (xs : List ℕ) (at : ℕ) (ys zs : List ℕ) → putAt (length xs + at) ys (xs ++ zs) ≡ xs ++ putAt at ys zs
-unfolding putAt
-put-behind xs at ys zs =
-    ap₂ (λ l r. l ++ (ys ++ r)) (take-append-add xs zs at)
-    (ap (λ n. drop n (xs ++ zs)) (add-assoc (length xs) at (length ys)) ∙ drop-append-add xs zs (at + length ys))
-    ∙ append-assoc xs (take at zs) (ys ++ drop (at + length ys) zs)
-
 -- What changes a cell, put into its form, changes it in the form of all.
 module _ (offset : ℕ) (bytes : List ℕ) (change : Cell → Cell)
     (here : (c : Cell) (bs : List ℕ) → putAt offset bytes (cellForm c ++ bs) ≡ cellForm (change c) ++ bs) where
@@ -370,23 +362,13 @@ posted-size bs k w ready {mid} e f = ap length f ∙ mark-size mid k ready ∙ a
     go true = word-size bs k w
     go false = refl
 
-four-set : (bs : List ℕ) (at a b c d : ℕ) → at + 4 ≤ length bs
-    → set (set (set (set bs at a) (at + 1) b) (at + 2) c) (at + 3) d ≡ putAt at (a ∷ b ∷ c ∷ d ∷ []) bs
-unfolding putAt
-four-set bs at a b c d h =
-    let one : at + 1 ≡ suc at = omega arith in
-    let two : at + 2 ≡ suc (suc at) = omega arith in
-    let three : at + 3 ≡ suc (suc (suc at)) = omega arith in
-    rw (one, two, three)
-    (sets-eq (a ∷ b ∷ c ∷ d ∷ []) bs at h ∙ append-assoc (take at bs) (a ∷ b ∷ c ∷ d ∷ []) (drop (at + 4) bs))
-
 pub word-set : (bs : List ℕ) (k w : ℕ) → k < length bs / cellSize
     → set (set (set (set bs (k * cellSize) (w / 2 ^ 24 % 2 ^ 8)) (k * cellSize + 1) (w / 2 ^ 16 % 2 ^ 8)) (k * cellSize + 2) (w / 2 ^ 8 % 2 ^ 8)) (k * cellSize + 3) (w % 2 ^ 8)
     ≡ withWord k w bs
 unfolding withWord word
 word-set bs k w h =
     rw (lt-ltb k (length bs / cellSize) h)
-    (four-set bs (k * cellSize) (w / 2 ^ 24 % 2 ^ 8) (w / 2 ^ 16 % 2 ^ 8) (w / 2 ^ 8 % 2 ^ 8) (w % 2 ^ 8) (omega (arith, h)))
+    (put-four bs (k * cellSize) (w / 2 ^ 24 % 2 ^ 8) (w / 2 ^ 16 % 2 ^ 8) (w / 2 ^ 8 % 2 ^ 8) (w % 2 ^ 8) (omega (arith, h)))
 
 pub mark-set : (bs : List ℕ) (k : ℕ) (t : Bool) → k < length bs / cellSize → set bs (k * cellSize + 4) (markOf t) ≡ withMark k t bs
 unfolding withMark

@@ -41,13 +41,13 @@ module _ (t : Tree) (cs : List Cell) (ok : sound t ≡ true) (fit : cellsSound t
   unfolding cellsSound
   counted = and-left (eqb (length cs) (length (t .properties))) (inWidth cs) fit
 
-  tree-read : seen (treeForm t) ≡ t
+  pub tree-read : seen (treeForm t) ≡ t
   tree-read = form-seen t (sound-parts t ok)
 
-  cells-read : cellsIn (cellsForm cs) ≡ cs
+  pub cells-read : cellsIn (cellsForm cs) ≡ cs
   cells-read = cells-in-form cs (cells-width t cs fit)
 
-  forms-lent : isLent (treeForm t) (cellsForm cs) ≡ true
+  pub forms-lent : isLent (treeForm t) (cellsForm cs) ≡ true
   unfolding isLent treeOf
   forms-lent =
       and-both (if-some (isTree (treeForm t)) (form-tree t ok) .0)

@@ -8,3 +8,4 @@ pub mod Demand3
 pub mod Listing
 pub mod StrayDle
 pub mod Sheets
+pub mod Buslink

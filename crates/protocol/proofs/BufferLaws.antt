@@ -1,6 +1,6 @@
 -- Lent buffers: bytes put one behind the other, from a place on or at the front.
 -- Assumes nothing.
-use Prim.Native.Nat.{ℕ, _+_, _-_, _<_, _≤_}
+use Prim.Native.Nat.{ℕ, suc, _+_, _-_, _<_, _≤_}
 use native.Mathlib.Omega.{arith}
 use native.Mathlib.Nat.{zero-add, add-zero, add-assoc}
 use native.Mathlib.Numerals.{add-one}
@@ -10,7 +10,7 @@ use mathlib.Core.List.{List, [], _∷_, _++_, append-assoc, append-nil}
 use borrow.Rule.Slice.PartMut.{putMid}
 use borrow.Author.Tests.{lt-ltb, le-ltb, eq-eqb, ne-eqb}
 use lib.ListN.{length, getD, take, drop, set, take-append-drop, drop-of-length-le, length-append, length-take, length-drop}
-use lib.Seq.{take-all, take-append-le, take-append-add, take-suc, length-take-le, set-split, take-at, drop-drop, drop-append-add}
+use lib.Seq.{take-all, take-append-le, take-append-add, take-suc, length-take-le, set-split, sets-eq, take-at, drop-drop, drop-append-add}
 use Rattle.protocol.specs.Buffer.{putAt, over, fitting, Put, Emits}
 use Rattle.protocol.specs.Numbers.{done, noRoom}
 use Rattle.protocol.specs.Frame.{Received, received, refused, sizeNumber, ifSized, ifRoom}
@@ -19,6 +19,25 @@ use Rattle.protocol.specs.Frame.{Received, received, refused, sizeNumber
 pub set-put : (xs : List ℕ) (at b : ℕ) → at < length xs → set xs at b ≡ putAt at (b ∷ []) xs
 unfolding putAt
 set-put xs at b h = set-split xs at b h ∙ ap (λ n. take at xs ++ b ∷ drop n xs) (sym (add-one at))
+
+-- Four bytes stored are four bytes put.
+pub put-four : (xs : List ℕ) (at a b c d : ℕ) → at + 4 ≤ length xs
+    → set (set (set (set xs at a) (at + 1) b) (at + 2) c) (at + 3) d ≡ putAt at (a ∷ b ∷ c ∷ d ∷ []) xs
+unfolding putAt
+put-four xs at a b c d h =
+    let one : at + 1 ≡ suc at = omega arith in
+    let two : at + 2 ≡ suc (suc at) = omega arith in
+    let three : at + 3 ≡ suc (suc (suc at)) = omega arith in
+    rw (one, two, three)
+    (sets-eq (a ∷ b ∷ c ∷ d ∷ []) xs at h ∙ append-assoc (take at xs) (a ∷ b ∷ c ∷ d ∷ []) (drop (at + 4) xs))
+
+-- Bytes put behind others.
+pub put-behind : (xs : List ℕ) (at : ℕ) (ys zs : List ℕ) → putAt (length xs + at) ys (xs ++ zs) ≡ xs ++ putAt at ys zs
+unfolding putAt
+put-behind xs at ys zs =
+    ap₂ (λ l r. l ++ (ys ++ r)) (take-append-add xs zs at)
+    (ap (λ n. drop n (xs ++ zs)) (add-assoc (length xs) at (length ys)) ∙ drop-append-add xs zs (at + length ys))
+    ∙ append-assoc xs (take at zs) (ys ++ drop (at + length ys) zs)
 
 module _ (xs : List ℕ) (at : ℕ) (ys : List ℕ) where
   pub length-put : at + length ys ≤ length xs → length (putAt at ys xs) ≡ length xs

@@ -280,7 +280,7 @@ module _ (t : Tree) (cs : List Cell) (good : sound t ≡ true) (w : Words cs) wh
 
 -- What holds at each entry that passes holds of all the places, and the other way.
 module _ {A : Type 0} (f : A → Bool) (d : A) (P : ℕ → Type 0) where
-  places-all : (xs : List A) (j : ℕ) → ((i : ℕ) → f (getD xs i d) ≡ true → P (i + j)) → All P (placesFrom j f xs)
+  pub places-all : (xs : List A) (j : ℕ) → ((i : ℕ) → f (getD xs i d) ≡ true → P (i + j)) → All P (placesFrom j f xs)
   unfolding placesFrom
   places-all [] j h = tt
   places-all (x ∷ xs) j h =

@@ -61,6 +61,14 @@ badSheet = 17
 abbrev pub notInRange : ℕ
 notInRange = 18
 
+-- 02, section 5: an address, a type or an indicator that there is not; received, not the station's identifier
+abbrev pub badIdentifier : ℕ
+badIdentifier = 19
+
+-- 02, section 5: not 8 bytes received
+abbrev pub badLength : ℕ
+badLength = 20
+
 -- House: what a call says that ended no frame. No row of a table has this number.
 abbrev pub noFrame : ℕ
 noFrame = 255

@@ -4,6 +4,7 @@ use mathlib.Core.Bool.{Bool, true, false, cond, not, _&&_}
 use mathlib.Core.List.{List, [], _∷_}
 use lib.ListN.{getD, take, drop}
 use lib.Dec.{eqb, ltb, leb}
+use lib.IntN.{ℤ, pos, negℤ}
 use Rattle.protocol.specs.Numbers.{wordEnd}
 use Rattle.protocol.specs.Text.{decimal}
 
@@ -16,6 +17,10 @@ pub record Number : Type 0 where
 unfoldable pub numberOf : Bool → ℕ → Number
 numberOf signed w =
     cond (signed && leb (2 ^ 31) w) (record { below = true; size = wordEnd - w }) (record { below = false; size = w })
+
+-- The same as an integer.
+unfoldable pub integerOf : Number → ℤ
+integerOf n = cond (n .below) (negℤ (pos (n .size))) (pos (n .size))
 
 -- Decimal, a minus sign where it is below zero, no leading zeros.
 unfoldable pub numeral : Number → List ℕ

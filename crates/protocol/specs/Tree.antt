@@ -68,6 +68,10 @@ childrenOf t place = placesFrom 1 (λ n. eqb (n .parent) place) (drop 1 (t .node
 unfoldable pub propertiesOf : Tree → ℕ → List ℕ
 propertiesOf t place = placesFrom 0 (λ p. eqb (p .node) place) (t .properties)
 
+-- 02, section 5: the places of the live properties, in list order.
+unfoldable pub liveOf : Tree → List ℕ
+liveOf t = placesFrom 0 isLive (t .properties)
+
 -- A child by its node number, and a property by its property index: one type for each, so that neither stands for the other.
 abbrev pub childOf : Tree → ℕ → NodeNumber → Option ℕ
 childOf t place n = numbered (childrenOf t place) (n .0)

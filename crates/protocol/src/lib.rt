@@ -45,6 +45,11 @@ pub const BAD_SHEET: u8 = 17;
 
 pub const NOT_IN_RANGE: u8 = 18;
 
+// Numbers returned (document 02, section 5).
+pub const BAD_IDENTIFIER: u8 = 19;
+
+pub const BAD_LENGTH: u8 = 20;
+
 pub const NO_FRAME: u8 = 255;
 
 // No action is to be taken: no property has this place.

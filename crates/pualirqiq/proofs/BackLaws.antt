@@ -1,28 +1,32 @@
--- What is handed back beside a number: the fields of a request, where data stands, a reading.
+-- What is handed back beside a number: the fields of a request, where data stands, a reading, an indicator.
 -- Assumes nothing.
 use Prim.Native.Nat.{ℕ, _-_, _<_, _≤_}
 use native.Mathlib.Omega.{arith}
 use mathlib.Core.Path.{_≡_, refl, sym, ap, _∙_}
-use mathlib.Core.Bool.{Bool, true, cond}
+use mathlib.Core.Bool.{Bool, true, false, cond}
 use mathlib.Core.List.{List, []}
 use mathlib.Core.Option.{Option, none, some}
 use borrow.Author.Tests.{eq-eqb, ne-eqb, lt-ltb, le-ltb}
 use lib.ListN.{length, take, drop, length-drop}
 use lib.Seq.{take-all}
+use lib.Dec.{eqb}
+use lib.IntN.{ℤ}
 use Rattle.protocol.specs.Numbers.{done, unsound, badParameter, noReading}
 use Rattle.protocol.specs.Frame.{readDatagram}
 use Rattle.protocol.specs.Request.{Asked}
+use Rattle.protocol.specs.Signed.{numberOf, integerOf}
 use Rattle.protocol.specs.Tree.{propertyIn, cellIn, reading}
 use Rattle.protocol.proofs.FrameLaws.{readDatagram-refused}
 use Rattle.datagram.proofs.UdpLaws.{data-from-4}
 use Rattle.request.specs.declared.Asked as declared
 use Rattle.request.specs.Asked.{AskedIs}
+use Rattle.buslink.specs.declared.table.Told.{Told}
 use Rattle.tree.specs.Seen.{seen}
 use Rattle.soundness.specs.Sound.{isTree}
 use Rattle.cells.specs.Cells.{cellsIn}
 use Rattle.cells.specs.Lent.{isLent, lentNumber, readOf, readIn, Reads}
 use Rattle.cells.proofs.CellLaws.{lent-refused}
-use Rattle.pualirqiq.specs.Calls.{treeNumber, Handed, handed, fieldsOf, HandsBack, Locates}
+use Rattle.pualirqiq.specs.Calls.{treeNumber, Handed, handed, fieldsOf, HandsBack, Locates, Tells}
 
 -- A tree alone.
 pub tree-number : (tree : List ℕ) (t : Bool) → isTree tree ≡ t → cond t done unsound ≡ treeNumber tree
@@ -98,3 +102,30 @@ module _ (tree cells : List ℕ) (place old : ℕ) where
       pub reads-word : {w : ℕ} → reading (propertyIn (seen tree) place) (cellIn (cellsIn cells) place) ≡ some w
           → Reads (readIn tree cells place) old done w
       reads-word {w} e = rw (read-there (some w) e) (record { number = refl; word-is = refl })
+
+-- What a table tells of an indicator.
+module _ {what told : Told} (e : told ≡ what) {value : ℤ} {status format : ℕ} where
+  pub tells-none : (told .number ≡ done → ⊥) → Tells what value status format (told .number) value status format
+  tells-none h =
+      let test : eqb (what .number) done ≡ false = ne-eqb (what .number) done (λ z. h (ap (λ t. t .number) e ∙ z)) in
+      record {
+        number = ap (λ t. t .number) e;
+        value-is = sym (ap (λ b. cond b (integerOf (numberOf true (what .indicator .value))) value) test);
+        status-is = sym (ap (λ b. cond b (what .indicator .status) status) test);
+        format-is = sym (ap (λ b. cond b (what .indicator .format) format) test);
+      }
+
+  pub tells-record : {n : ℤ} → told .number ≡ done → n ≡ integerOf (numberOf true (told .indicator .value))
+      → Tells what value status format done n (told .indicator .status) (told .indicator .format)
+  tells-record h f =
+      let is : what .number ≡ done = ap (λ t. t .number) (sym e) ∙ h in
+      let test : eqb (what .number) done ≡ true = eq-eqb (what .number) done is in
+      record {
+        number = sym is;
+        value-is =
+            f
+            ∙ ap (λ t. integerOf (numberOf true (t .indicator .value))) e
+            ∙ sym (ap (λ b. cond b (integerOf (numberOf true (what .indicator .value))) value) test);
+        status-is = ap (λ t. t .indicator .status) e ∙ sym (ap (λ b. cond b (what .indicator .status) status) test);
+        format-is = ap (λ t. t .indicator .format) e ∙ sym (ap (λ b. cond b (what .indicator .format) format) test);
+      }

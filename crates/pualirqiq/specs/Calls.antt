@@ -2,16 +2,19 @@
 -- number.
 use Prim.Native.Nat.{ℕ, _*_}
 use mathlib.Core.Path.{_≡_}
-use mathlib.Core.Bool.{Bool, cond, not, _&&_}
+use mathlib.Core.Bool.{Bool, true, cond, not, _&&_}
 use mathlib.Core.List.{List}
 use lib.ListN.{length, take, drop, replicate}
 use lib.Dec.{eqb}
+use lib.IntN.{ℤ}
 use Rattle.protocol.specs.Numbers.{done, unsound}
 use Rattle.protocol.specs.Frame.{Received}
 use Rattle.protocol.specs.Request.{Request, Asked}
+use Rattle.protocol.specs.Signed.{numberOf, integerOf}
 use Rattle.stream.specs.State.{stateLength}
 use Rattle.request.specs.Asked.{padded}
 use Rattle.cells.specs.Cells.{cellSize}
+use Rattle.buslink.specs.declared.table.Told.{Told}
 use Rattle.tree.specs.Seen.{seen}
 use Rattle.soundness.specs.Sound.{isTree}
 
@@ -68,3 +71,11 @@ pub record Locates (what : Received) (s : List ℕ) (n offset len : ℕ) : Type 
   pub offset-is : offset ≡ cond (eqb (what .number) done) 4 0
   pub len-is : len ≡ length (what .payload)
   pub part : take len (drop offset s) ≡ what .payload
+
+-- 02, section 5: what a table of records tells of an indicator: its value as a signed integer, status and format; with any other number
+-- than 0 what lay there is left as it was.
+pub record Tells (what : Told) (value : ℤ) (status format n : ℕ) (value′ : ℤ) (status′ format′ : ℕ) : Type 0 where
+  pub number : n ≡ what .number
+  pub value-is : value′ ≡ cond (eqb (what .number) done) (integerOf (numberOf true (what .indicator .value))) value
+  pub status-is : status′ ≡ cond (eqb (what .number) done) (what .indicator .status) status
+  pub format-is : format′ ≡ cond (eqb (what .number) done) (what .indicator .format) format

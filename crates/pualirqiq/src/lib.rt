@@ -22,7 +22,9 @@ ghost use Rattle.compose.specs.Write.{writeRequest};
 ghost use Rattle.cells.specs.Lent.{lentNumber, Updates, postIn, restoreIn, Reads, readIn};
 ghost use Rattle.sheet.specs.Sheets.{written, loadIn};
 ghost use Rattle.answer.specs.Serve.{serveData, serveSerial, serveUdp, Serves};
-ghost use Rattle.pualirqiq.specs.Calls.{truth, Zeroes, isStateSized, cellsSize, isCellsSized, treeNumber, handed, HandsBack, Locates};
+ghost use Rattle.buslink.specs.Send.{sendIn, Sends};
+ghost use Rattle.buslink.specs.Receive.{tableSize, isTable, receiveTable, Receives, toldIn};
+ghost use Rattle.pualirqiq.specs.Calls.{truth, Zeroes, Tells, isStateSized, cellsSize, isCellsSized, treeNumber, handed, HandsBack, Locates};
 
 // How long a stream state is.
 #[no_mangle]
@@ -385,4 +387,73 @@ pub extern "C" fn pq_write_udp(
     let datagram = compose::write_udp(op, path, PropertyIndex(index), value, out);
     *len = datagram.len;
     datagram.number
+}
+
+// A station's Buslink frame of a type: 1, 8, 19 or 0. Its data stands at the front of the output.
+#[no_mangle]
+pub extern "C" fn pq_buslink_send(
+    tree: &[u8],
+    cells: &[u8],
+    base: u8,
+    sub: u8,
+    kind: u8,
+    out: &mut [u8],
+    identifier: &mut u32,
+) -> u8
+    ensures { λ r. ⌜ Sends (sendIn (now (tree .entry)) (now (cells .entry)) base sub kind (length (now (out .entry)))) (now (out .entry)) r (now (identifier .exit)) (now (out .exit)) ⌝ }
+{
+    let sent = buslink::send::send(tree, cells, base, sub, kind, out);
+    *identifier = sent.identifier;
+    sent.number
+}
+
+// A table of a Buslink receiver's records that begins: 1 or 0.
+#[no_mangle]
+pub extern "C" fn pq_begin_buslink(records: &mut [u8]) -> u8
+    ensures { λ r. ⌜ Zeroes (isTable (now (records .entry))) tableSize (now (records .entry)) r (now (records .exit)) ⌝ }
+{
+    if records.len() != buslink::TABLE_SIZE {
+        return UNSOUND;
+    }
+    clear(records)
+}
+
+// A Buslink frame received for a station: 1, 19, 20 or 0. Tells which of the indicators that it carried are usable.
+#[no_mangle]
+pub extern "C" fn pq_buslink_receive(
+    records: &mut [u8],
+    base: u8,
+    sub: u8,
+    identifier: u32,
+    payload: &[u8],
+    usable: &mut u16,
+) -> u8
+    ensures { λ r. ⌜ Receives (receiveTable base sub identifier (now (payload .entry)) (now (records .entry))) r (now (usable .exit)) (now (records .exit)) ⌝ }
+{
+    let receipt = buslink::table::receive(records, base, sub, identifier, payload);
+    *usable = receipt.usable;
+    receipt.number
+}
+
+// What a Buslink receiver's records hold of an indicator: 1, 19 or 0.
+#[no_mangle]
+pub extern "C" fn pq_buslink_indicator(
+    records: &[u8],
+    indicator: u8,
+    value: &mut i32,
+    status: &mut u8,
+    format: &mut u8,
+) -> u8
+    ensures { λ r. ⌜ Tells (toldIn (now (records .entry)) indicator) (now (value .entry)) (now (status .entry)) (now (format .entry)) r (now (value .exit)) (now (status .exit)) (now (format .exit)) ⌝ }
+{
+    let told = buslink::table::indicator_of(records, indicator);
+    let number = told.number;
+    if number != DONE {
+        return number;
+    }
+    let signed = word::signed(told.indicator.value);
+    *value = signed;
+    *status = told.indicator.status;
+    *format = told.indicator.format;
+    DONE
 }

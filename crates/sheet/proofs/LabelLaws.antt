@@ -14,7 +14,7 @@ use Rattle.protocol.specs.Text.{begins, sameText}
 use Rattle.protocol.specs.Tree.{Tree}
 use Rattle.protocol.specs.Sheet.{settingsOf, isPlain, writable}
 use Rattle.protocol.proofs.LoadLaws.{begins-stands, text-same, text-self}
-use Rattle.sheet.specs.Steps.{labelAt, settingsFrom, NextIs}
+use Rattle.sheet.specs.Steps.{labelAt, settingsFrom, NextSetting}
 use Rattle.sheet.proofs.SettingLaws.{settings-all, Tests, Trying, try-begins, try-on, try-fails, try-ends, every-tests}
 
 -- A label with no "=" up to a place: what is left decides.
@@ -79,14 +79,14 @@ module _ (t : Tree) (s : List ℕ) (k : ℕ) where
   others : Tests t (every (differs t s)) (λ i ks. differs t s i)
   others = every-tests t (differs t s)
 
-  pub differing-begins : {j : ℕ} → NextIs t (k + 1) j → Differing t s k j
+  pub differing-begins : {j : ℕ} → NextSetting t (k + 1) j → Differing t s k j
   differing-begins n = try-begins _ _ _ others n refl
 
   module _ {j : ℕ} {r : Bool} (y : Differing t s k j) (h : j < length (t .properties)) (e : r ≡ sameText s (labelAt t j)) where
     pub differing-fails : r ≡ true → false ≡ every (differs t s) (settingsFrom t (k + 1))
     differing-fails f = try-fails _ _ _ others y h (ap not (sym e ∙ f))
 
-    pub differing-on : {i : ℕ} → r ≡ false → NextIs t (j + 1) i → Differing t s k i
+    pub differing-on : {i : ℕ} → r ≡ false → NextSetting t (j + 1) i → Differing t s k i
     differing-on f n = try-on _ _ _ others y h (ap not (sym e ∙ f)) n
 
   pub differing-ends : {j : ℕ} → Differing t s k j → length (t .properties) ≤ j → true ≡ every (differs t s) (settingsFrom t (k + 1))
@@ -116,7 +116,7 @@ module _ (t : Tree) where
         more = λ k ks. three (isPlain (labelAt t k)) (every (differs t (labelAt t k)) ks) (writable t ks);
       }
 
-  pub writing-begins : {k : ℕ} → NextIs t 0 k → Writing t k
+  pub writing-begins : {k : ℕ} → NextSetting t 0 k → Writing t k
   writing-begins n = try-begins _ _ _ labels n (ap (writable t) (settings-all t))
 
   module _ {k : ℕ} (y : Writing t k) (h : k < length (t .properties)) {r : Bool} (e : r ≡ isPlain (labelAt t k)) where
@@ -130,7 +130,7 @@ module _ (t : Tree) where
       pub repeated : u ≡ false → false ≡ writable t (settingsOf t)
       repeated d = try-fails _ _ _ labels y h (both ∙ d)
 
-      pub writing-on : {j : ℕ} → u ≡ true → NextIs t (k + 1) j → Writing t j
+      pub writing-on : {j : ℕ} → u ≡ true → NextSetting t (k + 1) j → Writing t j
       writing-on d n = try-on _ _ _ labels y h (both ∙ d) n
 
   pub writing-ends : {k : ℕ} → Writing t k → length (t .properties) ≤ k → true ≡ writable t (settingsOf t)

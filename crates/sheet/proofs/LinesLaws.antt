@@ -16,7 +16,7 @@ use Rattle.protocol.specs.Sheet.{isSetting, settingsOf, isLine, lineSize, lineW
 use Rattle.protocol.proofs.LoadLaws.{line-inside}
 use Rattle.cells.specs.Cells.{cellSize, cellsForm, cellsIn, hasCells, withWord}
 use Rattle.cells.proofs.CellLaws.{form-of, cells-size, word-stored}
-use Rattle.sheet.specs.Steps.{settingsFrom, NextIs, LineIs}
+use Rattle.sheet.specs.Steps.{settingsFrom, NextSetting, LineIs}
 use Rattle.sheet.specs.declared.read.Line.{Line}
 use Rattle.sheet.proofs.SettingLaws.{settings-all, settings-here, settings-end}
 
@@ -73,7 +73,7 @@ pub record Checking (t : Tree) (bs : List ℕ) (number at k : ℕ) : Type 0 wher
   pub decides : sheetNumber t (settingsOf t) bs ≡ worse number (sheetNumber t (settingsFrom t k) (drop at bs))
 
 module _ (t : Tree) (bs : List ℕ) where
-  pub check-begins : {k : ℕ} → NextIs t 0 k → Checking t bs done 0 k
+  pub check-begins : {k : ℕ} → NextSetting t 0 k → Checking t bs done 0 k
   check-begins {k} n =
       record {
         inside = omega arith;
@@ -102,7 +102,7 @@ module _ (t : Tree) (bs : List ℕ) where
             c .inside,
           )
 
-      pub check-on : {n j : ℕ} → r .is ≡ true → n ≡ cond (r .«in_range») number notInRange → NextIs t (k + 1) j → Checking t bs n (at + r .size) j
+      pub check-on : {n j : ℕ} → r .is ≡ true → n ≡ cond (r .«in_range») number notInRange → NextSetting t (k + 1) j → Checking t bs n (at + r .size) j
       check-on {n} {j} e f m =
           record {
             inside = line-ends e;
@@ -157,7 +157,7 @@ pub record Storing (t : Tree) (bs old cells : List ℕ) (at k : ℕ) : Type 0 wh
   pub on : loaded t (settingsOf t) bs (cellsIn old) ≡ loaded t (settingsFrom t k) (drop at bs) now
 
 module _ (t : Tree) (bs old : List ℕ) where
-  pub store-begins : {k : ℕ} → hasCells old ≡ true → sheetNumber t (settingsOf t) bs ≡ done → NextIs t 0 k → Storing t bs old old 0 k
+  pub store-begins : {k : ℕ} → hasCells old ≡ true → sheetNumber t (settingsOf t) bs ≡ done → NextSetting t 0 k → Storing t bs old old 0 k
   store-begins {k} f g n =
       record {
         inside = omega arith;
@@ -187,7 +187,7 @@ module _ (t : Tree) (bs old : List ℕ) where
     stored-ends =
         omega (arith, l .bytes is-line, line-inside (propertyIn t k) (drop at bs) (parts .0), length-drop at bs, s .inside)
 
-    pub store-on : {new : List ℕ} {j : ℕ} → new ≡ withWord k (r .word) cells → NextIs t (k + 1) j → Storing t bs old new (at + r .size) j
+    pub store-on : {new : List ℕ} {j : ℕ} → new ≡ withWord k (r .word) cells → NextSetting t (k + 1) j → Storing t bs old new (at + r .size) j
     unfolding loaded
     store-on {new} {j} e n =
         let next : List Cell = set (s .now) k (stored (cellIn (s .now) k) (r .word)) in

@@ -27,7 +27,7 @@ use Rattle.cells.specs.Cells.{cellsIn}
 use Rattle.cells.specs.Lent.{isLent, readingOf}
 use Rattle.cells.specs.declared.Reading.the-variants.{Word, Nothing}
 use Rattle.cells.proofs.ReadingLaws.{word-read, none-read}
-use Rattle.sheet.specs.Steps.{settingsFrom, NextIs}
+use Rattle.sheet.specs.Steps.{settingsFrom, NextSetting}
 use Rattle.sheet.proofs.SettingLaws.{hold-same, settings-all, settings-here, settings-end, Tests, Trying, try-begins, try-on, try-fails, try-ends, every-tests}
 
 pub lent-tree : (tree cells : List ℕ) → isLent tree cells ≡ true → isTree tree ≡ true
@@ -61,7 +61,7 @@ module _ (tree cells : List ℕ) where
   tests : Tests (seen tree) (every (ranged (seen tree) (cellsIn cells))) (λ j ks. ranged (seen tree) (cellsIn cells) j)
   tests = every-tests (seen tree) (ranged (seen tree) (cellsIn cells))
 
-  pub ranging-begins : {k : ℕ} → NextIs (seen tree) 0 k → Ranging tree cells k
+  pub ranging-begins : {k : ℕ} → NextSetting (seen tree) 0 k → Ranging tree cells k
   unfolding inRanges
   ranging-begins n = try-begins _ _ _ tests n (ap (every (ranged (seen tree) (cellsIn cells))) (settings-all (seen tree)))
 
@@ -69,7 +69,7 @@ module _ (tree cells : List ℕ) where
     pub ranging-fails : r ≡ false → false ≡ inRanges (seen tree) (cellsIn cells)
     ranging-fails f = try-fails _ _ _ tests y h (sym e ∙ f)
 
-    pub ranging-on : {j : ℕ} → r ≡ true → NextIs (seen tree) (k + 1) j → Ranging tree cells j
+    pub ranging-on : {j : ℕ} → r ≡ true → NextSetting (seen tree) (k + 1) j → Ranging tree cells j
     ranging-on f n = try-on _ _ _ tests y h (sym e ∙ f) n
 
   pub ranging-ends : {k : ℕ} → Ranging tree cells k → length (seen tree .properties) ≤ k → true ≡ inRanges (seen tree) (cellsIn cells)
@@ -90,7 +90,7 @@ pub record Putting (t : Tree) (cs : List Cell) (old out : List ℕ) (at k : ℕ)
   pub laying : Laying (sheet t cs) old 0 (linesFrom t cs k) out at
 
 module _ (t : Tree) (cs : List Cell) (old : List ℕ) where
-  pub put-begins : {k : ℕ} → NextIs t 0 k → Putting t cs old old 0 k
+  pub put-begins : {k : ℕ} → NextSetting t 0 k → Putting t cs old old 0 k
   unfolding sheet
   put-begins n =
       record {
@@ -101,7 +101,7 @@ module _ (t : Tree) (cs : List Cell) (old : List ℕ) where
       }
 
   pub put-on : {out mid : List ℕ} {at r k j : ℕ} → length old < farthest → Putting t cs old out at k → k < length (t .properties)
-      → Laid at (settingLine (propertyIn t k) (cellIn cs k .word)) out r mid → NextIs t (k + 1) j → Putting t cs old mid r j
+      → Laid at (settingLine (propertyIn t k) (cellIn cs k .word)) out r mid → NextSetting t (k + 1) j → Putting t cs old mid r j
   unfolding each
   put-on {k = k} h p l q n =
       record {

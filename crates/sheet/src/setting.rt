@@ -6,7 +6,7 @@ ghost use mathlib.Core.Path.{_≡_};
 ghost use Rattle.protocol.specs.Sheet.{isSetting, mayHold};
 ghost use Rattle.tree.specs.Seen.{seen};
 ghost use Rattle.tree.specs.Lookup.{numbersOf};
-ghost use Rattle.sheet.specs.Steps.{NextIs};
+ghost use Rattle.sheet.specs.Steps.{NextSetting};
 
 // Whether a property is a setting: it has read and write.
 fn is_setting(f: Fields) -> bool
@@ -27,7 +27,7 @@ pub(crate) fn may_hold(f: Fields, word: u32) -> bool
 
 // The place of the next setting, from a place on; behind the last property where there is none.
 pub(crate) fn next(tree: &[u8], from: usize) -> usize
-    ensures { λ r. ⌜ NextIs (seen (now (tree .entry))) from r ⌝ }
+    ensures { λ r. ⌜ NextSetting (seen (now (tree .entry))) from r ⌝ }
 {
     let count = record::property_count(tree);
     let mut k = from;

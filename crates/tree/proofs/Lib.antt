@@ -6,3 +6,4 @@ pub mod NumberLaws
 pub mod TextLaws
 pub mod FieldLaws
 pub mod RangeLaws
+pub mod NextLaws

@@ -1,12 +1,12 @@
 -- What the lookups hand back: a place, the numbers of a property, and where a text lies.
-use Prim.Native.Nat.{ℕ, _+_, _-_, _*_, _≤_}
+use Prim.Native.Nat.{ℕ, _+_, _-_, _*_, _<_, _≤_}
 use mathlib.Core.Path.{_≡_}
-use mathlib.Core.Bool.{cond}
+use mathlib.Core.Bool.{Bool, true, cond}
 use mathlib.Core.List.{List, []}
 use mathlib.Core.Option.{Option, none, some}
 use lib.ListN.{length, take, drop}
 use lib.Dec.{ltb}
-use Rattle.protocol.specs.Tree.{Property}
+use Rattle.protocol.specs.Tree.{Property, Tree, placesFrom, propertyIn}
 use Rattle.tree.specs.Form.{nodeSize, propertySize, propertiesStart}
 use Rattle.tree.specs.Seen.{halfAt, nodeCount, propertyCount}
 use Rattle.tree.specs.declared.Found.{Found}
@@ -41,6 +41,16 @@ numbersOf f =
       label = [];
       options = [];
     }
+
+-- The places, from a place on, of the properties that pass a test; and the next one, or a place behind the last property.
+module _ (test : Property → Bool) (t : Tree) where
+  unfoldable pub placesIn : ℕ → List ℕ
+  placesIn k = placesFrom k test (drop k (t .properties))
+
+  pub record NextIs (from r : ℕ) : Type 0 where
+    pub behind : from ≤ r
+    pub same : placesIn from ≡ placesIn r
+    pub is : r < length (t .properties) → test (propertyIn t r) ≡ true
 
 -- Where a text begins that is said to lie at a place: there, or at the front where the bytes have ended before it.
 abbrev pub textStart : List ℕ → ℕ → ℕ

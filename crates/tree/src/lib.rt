@@ -2,6 +2,7 @@
 // call gets it as bytes (docs/FORMATS.md) and trusts none of them.
 pub mod bench;
 pub mod bytes;
+pub mod live;
 pub mod part;
 pub mod range;
 pub mod record;

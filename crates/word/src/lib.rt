@@ -1,9 +1,11 @@
-// Numbers made of bytes, the high byte first, and where a text ends.
+// Numbers made of bytes, the high byte first; a word as a signed integer; and where a text ends.
 ghost use mathlib.Core.Path.{_≡_};
 ghost use Prim.Native.Nat.{_+_, _*_, _<_, _^_};
+ghost use mathlib.Core.Bool.{true};
 ghost use mathlib.Core.List.{[], _∷_};
 ghost use Rattle.protocol.specs.Bytes.{number};
 ghost use Rattle.protocol.specs.Request.{beforeZero};
+ghost use Rattle.protocol.specs.Signed.{numberOf, integerOf};
 
 // A byte as a place or a count.
 pub fn wide(b: u8) -> usize
@@ -34,6 +36,16 @@ pub fn word_of(first: u8, second: u8, third: u8, last: u8) -> u32
     let two = with_byte(first as u32, second);
     let three = with_byte(two, third);
     with_byte(three, last)
+}
+
+// A word as a signed integer.
+pub fn signed(w: u32) -> i32
+    ensures { λ r. ⌜ r ≡ integerOf (numberOf true w) ⌝ }
+{
+    if w < 2147483648 {
+        return w as i32;
+    }
+    -1 - ((4294967295 - w) as i32)
 }
 
 // How many bytes stand before the first zero.

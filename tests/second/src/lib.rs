@@ -1,6 +1,8 @@
-//! A second implementation of the box, written from documents 01 and 02 (the rules), document 003 (PENKO PDI), docs/FORMATS.md
-//! (the lent forms) and include/pualirqiq.h (the calls), and from none of the library's code. It is there to be compared.
+//! A second implementation of the box, written from documents 01 and 02 (the rules), documents 000 (PENKO Buslink) and 003 (PENKO
+//! PDI), docs/FORMATS.md (the lent forms) and include/pualirqiq.h (the calls), and from none of the library's code. It is there to
+//! be compared.
 pub mod bench;
+pub mod buslink;
 pub mod cells;
 pub mod frame;
 pub mod listing;
@@ -27,6 +29,8 @@ pub const NOT_SAVED: u8 = 13;
 pub const NOT_LIVE: u8 = 14;
 pub const BAD_SHEET: u8 = 17;
 pub const OUT_OF_RANGE: u8 = 18;
+pub const BAD_IDENTIFIER: u8 = 19;
+pub const BAD_LENGTH: u8 = 20;
 pub const NO_FRAME: u8 = 255;
 pub const NO_ACTION: u8 = 255;
 

@@ -24,6 +24,18 @@ extern "C" {
     pub fn pq_read_sheet(
         tree: *const u8, tree_len: usize, cells: *mut u8, cells_len: usize, sheet: *const u8, sheet_len: usize,
     ) -> u8;
+    pub fn pq_buslink_send(
+        tree: *const u8, tree_len: usize, cells: *const u8, cells_len: usize, base: u8, sub: u8, kind: u8, out: *mut u8,
+        out_len: usize, identifier: *mut u32,
+    ) -> u8;
+    pub fn pq_begin_buslink(records: *mut u8, records_len: usize) -> u8;
+    pub fn pq_buslink_receive(
+        records: *mut u8, records_len: usize, base: u8, sub: u8, identifier: u32, data: *const u8, data_len: usize,
+        usable: *mut u16,
+    ) -> u8;
+    pub fn pq_buslink_indicator(
+        records: *const u8, records_len: usize, indicator: u8, value: *mut i32, status: *mut u8, format: *mut u8,
+    ) -> u8;
     pub fn pq_serve_data(
         tree: *const u8, tree_len: usize, cells: *mut u8, cells_len: usize, host: u8, request: *const u8, request_len: usize,
         out: *mut u8, out_len: usize, len: *mut usize, action: *mut u8,

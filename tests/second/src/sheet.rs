@@ -29,14 +29,6 @@ fn can_be_written(tree: &Tree) -> bool {
     differ && labels.iter().all(|label| !label.contains(&b'='))
 }
 
-fn number_of(property: &Property, word: u32) -> i64 {
-    if property.is_signed() {
-        i64::from(word as i32)
-    } else {
-        i64::from(word)
-    }
-}
-
 /// The word of a number that has 32 bits and lies in the range.
 fn word_of(property: &Property, number: i64) -> Option<u32> {
     let word = if property.is_signed() { i32::try_from(number).ok()? as u32 } else { u32::try_from(number).ok()? };
@@ -72,7 +64,7 @@ fn lines(tree: &[u8], cells: &[u8]) -> Result<Vec<u8>, u8> {
         }
         sheet.extend(property.label);
         sheet.push(b'=');
-        put_decimal(number_of(property, word), &mut sheet);
+        put_decimal(property.number(word), &mut sheet);
         sheet.push(b'\n');
     }
     Ok(sheet)

@@ -57,6 +57,15 @@ impl Property<'_> {
         self.kind == 1 && self.format & SIGNED != 0
     }
 
+    /// The number that its word is.
+    pub fn number(&self, word: u32) -> i64 {
+        if self.is_signed() {
+            i64::from(word as i32)
+        } else {
+            i64::from(word)
+        }
+    }
+
     /// Whether one number is at most another, signed where the format says so.
     fn ordered(&self, low: u32, high: u32) -> bool {
         if self.format & SIGNED != 0 {

@@ -8,14 +8,16 @@
 mod library;
 
 use library::*;
+use second::buslink::{Station, RECORDS_SIZE};
 use second::tree::Tree;
-use second::{bench, cells, frame, listing, request, serve, sheet, stream};
+use second::{bench, buslink, cells, frame, listing, request, serve, sheet, stream};
 use std::hint::black_box;
 use std::time::{Duration, Instant};
 
 const ADDRESS: u8 = 0x3B;
 const REPEATS: usize = 100;
 const SLICE: Duration = Duration::from_millis(2);
+const STATION: Station = Station { base: 1, sub: 2 };
 /// No listing is longer.
 const ROOM_LISTING: usize = 17_664;
 
@@ -39,6 +41,9 @@ enum Work {
     List { tree: Vec<u8> },
     WriteSheet { tree: Vec<u8>, cells: Vec<u8> },
     ReadSheet { tree: Vec<u8>, cells: Vec<u8>, sheet: Vec<u8> },
+    /// A frame of a type.
+    BuslinkSend { tree: Vec<u8>, cells: Vec<u8>, kind: u8 },
+    BuslinkReceive { identifier: u32, data: Vec<u8> },
 }
 
 /// Buffers that are lent over and over.
@@ -46,11 +51,13 @@ struct Desk {
     state: Vec<u8>,
     out: Vec<u8>,
     page: Vec<u8>,
+    records: Vec<u8>,
 }
 
 impl Desk {
     fn new() -> Desk {
-        Desk { state: vec![0; stream::STATE_SIZE], out: vec![0; second::ROOM_SERIAL], page: vec![0; ROOM_LISTING] }
+        let (state, out) = (vec![0; stream::STATE_SIZE], vec![0; second::ROOM_SERIAL]);
+        Desk { state, out, page: vec![0; ROOM_LISTING], records: vec![0; RECORDS_SIZE] }
     }
 }
 
@@ -108,6 +115,18 @@ fn sheet_rows(rows: &mut Vec<Row>, name: &str, tree: Vec<u8>, cells: Vec<u8>) {
     rows.push(row(&format!("read_sheet-{name}"), 1, Work::ReadSheet { tree, cells, sheet }));
 }
 
+/// The bench tree's first frame, sent and received, and the last one of the largest tree: its fifteenth probe is the property at
+/// place 42.
+fn buslink_rows(rows: &mut Vec<Row>) {
+    let (tree, cells) = (bench::tree().write(), bench::CELLS.to_vec());
+    let mut data = vec![0; buslink::DATA_SIZE];
+    let identifier = buslink::send(&tree, &cells, STATION, 2, &mut data).unwrap();
+    rows.push(row("buslink_send-bench", 1, Work::BuslinkSend { tree, cells, kind: 2 }));
+    let largest = Work::BuslinkSend { tree: bench::largest().write(), cells: [0, 0, 8, 0x34, 1].repeat(128), kind: 9 };
+    rows.push(row("buslink_send-largest", 1, largest));
+    rows.push(row("buslink_receive", 1, Work::BuslinkReceive { identifier, data }));
+}
+
 /// Each op on a tree, the firmware's reading of the same property, the tree's listing and its check.
 fn tree_rows(rows: &mut Vec<Row>, name: &str, tree: Vec<u8>, cells: Vec<u8>, path: &[u8], index: u8) {
     for op in 0..=5 {
@@ -140,6 +159,7 @@ fn rows() -> Vec<Row> {
     let (tree, cells) = (bench::settings().write(), bench::settings_cells());
     sheet_rows(&mut rows, "settings", tree.clone(), cells.clone());
     rows.push(row("check-settings", 1, Work::Check { tree, cells }));
+    buslink_rows(&mut rows);
     rows
 }
 
@@ -187,8 +207,24 @@ fn library_once(work: &mut Work, desk: &mut Desk) -> u8 {
                 let (lent, len) = (cells.as_mut_ptr(), cells.len());
                 pq_read_sheet(tree.as_ptr(), tree.len(), lent, len, sheet.as_ptr(), sheet.len())
             }
+            Work::BuslinkSend { tree, cells, kind } => send_once(tree, cells, *kind, &mut desk.out),
+            Work::BuslinkReceive { identifier, data } => receive_once(&mut desk.records, *identifier, data),
         }
     }
+}
+
+unsafe fn send_once(tree: &[u8], cells: &[u8], kind: u8, out: &mut [u8]) -> u8 {
+    let (lent, len, Station { base, sub }) = (cells.as_ptr(), cells.len(), STATION);
+    let mut identifier = 0;
+    pq_buslink_send(
+        tree.as_ptr(), tree.len(), lent, len, base, sub, kind, out.as_mut_ptr(), out.len(), &mut identifier,
+    )
+}
+
+unsafe fn receive_once(records: &mut [u8], identifier: u32, data: &[u8]) -> u8 {
+    let (lent, len, Station { base, sub }) = (records.as_mut_ptr(), records.len(), STATION);
+    let mut usable = 0;
+    pq_buslink_receive(lent, len, base, sub, identifier, data.as_ptr(), data.len(), &mut usable)
 }
 
 /// One call of the second implementation.
@@ -209,6 +245,12 @@ fn second_once(work: &mut Work, desk: &mut Desk) -> u8 {
         Work::List { tree } => black_box(listing::list(tree, &mut desk.page)).number,
         Work::WriteSheet { tree, cells } => black_box(sheet::write(tree, cells, &mut desk.page)).number,
         Work::ReadSheet { tree, cells, sheet } => black_box(sheet::read(tree, cells, sheet)),
+        Work::BuslinkSend { tree, cells, kind } => {
+            number(black_box(buslink::send(tree, cells, STATION, *kind, &mut desk.out)))
+        }
+        Work::BuslinkReceive { identifier, data } => {
+            number(black_box(buslink::receive(&mut desk.records, STATION, *identifier, data)))
+        }
     }
 }
 

@@ -1,11 +1,12 @@
 //! An input given to the library, and to the second implementation.
 use crate::input::{Call, Input, Lent, Seen};
 use crate::library::*;
+use second::buslink::{Indicator, Station};
 use second::listing::Listed;
 use second::request::Request;
 use second::serve::Served;
 use second::sheet::Written;
-use second::{cells, frame, listing, request, serve, sheet, stream, tree};
+use second::{buslink, cells, frame, listing, request, serve, sheet, stream, tree};
 
 /// What numbers that are handed back hold before the call: a word and the fields of a request hold it still after a refusal.
 const UNSET: u64 = 0xEEEE_EEEE_EEEE_EEEE;
@@ -15,12 +16,15 @@ struct Back {
     long: [usize; 2],
     short: [u8; 2],
     value: u32,
+    signed: i32,
+    mask: u16,
     path: Box<[u8]>,
 }
 
 impl Back {
     fn new() -> Back {
-        Back { long: [UNSET as usize; 2], short: [UNSET as u8; 2], value: UNSET as u32, path: vec![0xEE; 16].into() }
+        let (value, signed, mask) = (UNSET as u32, UNSET as i32, UNSET as u16);
+        Back { long: [UNSET as usize; 2], short: [UNSET as u8; 2], value, signed, mask, path: vec![0xEE; 16].into() }
     }
 
     fn request(&self) -> [u64; 5] {
@@ -34,12 +38,20 @@ impl Back {
     fn served(&self) -> [u64; 5] {
         two(self.long[0], self.short[0].into())
     }
+
+    fn indicator(&self) -> [u64; 5] {
+        indicator_fields(self.signed, self.short[0], self.short[1])
+    }
 }
 
 fn request_fields(op: u8, path: &[u8], len: usize, index: u8, value: u32) -> [u64; 5] {
     let half = |bytes: &[u8]| u64::from_be_bytes(bytes.try_into().unwrap());
     let small = u64::from(op) << 48 | u64::from(index) << 32 | u64::from(value);
     [small, len as u64, half(&path[..8]), half(&path[8..]), 0]
+}
+
+fn indicator_fields(value: i32, status: u8, format: u8) -> [u64; 5] {
+    [(value as u32).into(), status.into(), format.into(), 0, 0]
 }
 
 /// The library's call.
@@ -64,6 +76,8 @@ unsafe fn call(i: &Input, lent: &mut Lent, back: &mut Back) -> (u8, [u64; 5]) {
         Call::ReadSerial | Call::ReadUdp => call_read(i, lent, back),
         Call::List => call_list(lent, back),
         Call::WriteSheet | Call::ReadSheet => call_sheet(i, lent, back),
+        Call::BuslinkSend => call_send(i, lent, back),
+        Call::BeginBuslink | Call::BuslinkReceive | Call::BuslinkIndicator => call_records(i, lent, back),
         _ => call_cells(i, lent, back),
     }
 }
@@ -118,6 +132,35 @@ unsafe fn call_sheet(i: &Input, lent: &mut Lent, back: &mut Back) -> (u8, [u64; 
         return (pq_write_sheet(tree, tree_len, cells, cells_len, out, out_len, len), one(*len as u64));
     }
     (pq_read_sheet(tree, tree_len, cells, cells_len, bytes, bytes_len), one(0))
+}
+
+unsafe fn call_send(i: &Input, lent: &mut Lent, back: &mut Back) -> (u8, [u64; 5]) {
+    let (tree, tree_len) = lend(&mut lent.tree);
+    let (cells, cells_len) = lend(&mut lent.cells);
+    let (out, out_len) = lend(&mut lent.out);
+    let Station { base, sub } = i.station;
+    let identifier = &mut back.value;
+    let number = pq_buslink_send(tree, tree_len, cells, cells_len, base, sub, i.kind, out, out_len, identifier);
+    (number, back.word())
+}
+
+unsafe fn call_records(i: &Input, lent: &mut Lent, back: &mut Back) -> (u8, [u64; 5]) {
+    let (records, records_len) = lend(&mut lent.records);
+    let (data, data_len) = lend(&mut lent.bytes);
+    let Station { base, sub } = i.station;
+    match i.call {
+        Call::BeginBuslink => (pq_begin_buslink(records, records_len), one(0)),
+        Call::BuslinkReceive => {
+            let usable = &mut back.mask;
+            let number = pq_buslink_receive(records, records_len, base, sub, i.value, data, data_len, usable);
+            (number, one(back.mask.into()))
+        }
+        _ => {
+            let [status, format] = &mut back.short;
+            let number = pq_buslink_indicator(records, records_len, i.index, &mut back.signed, status, format);
+            (number, back.indicator())
+        }
+    }
 }
 
 unsafe fn call_serve(i: &Input, lent: &mut Lent, back: &mut Back) -> (u8, [u64; 5]) {
@@ -209,6 +252,10 @@ fn answer(i: &Input, lent: &mut Lent) -> (u8, [u64; 5]) {
         Call::List => listed(listing::list(&lent.tree, &mut lent.out)),
         Call::WriteSheet => told(sheet::write(&lent.tree, &lent.cells, &mut lent.out)),
         Call::ReadSheet => (sheet::read(&lent.tree, &mut lent.cells, &lent.bytes), one(0)),
+        Call::BuslinkSend => or_0(buslink::send(&lent.tree, &lent.cells, i.station, i.kind, &mut lent.out)),
+        Call::BeginBuslink => (buslink::begin(&mut lent.records), one(0)),
+        Call::BuslinkReceive => or_0(buslink::receive(&mut lent.records, i.station, i.value, &lent.bytes)),
+        Call::BuslinkIndicator => asked(buslink::indicator(&lent.records, i.index)),
         _ => answer_cells(i, lent),
     }
 }
@@ -276,6 +323,21 @@ fn looked(result: Result<u32, u8>) -> (u8, [u64; 5]) {
     match result {
         Ok(word) => (0, one(word.into())),
         Err(number) => (number, Back::new().word()),
+    }
+}
+
+/// An identifier, or a mask.
+fn or_0(result: Result<impl Into<u64>, u8>) -> (u8, [u64; 5]) {
+    match result {
+        Ok(back) => (0, one(back.into())),
+        Err(number) => (number, one(0)),
+    }
+}
+
+fn asked(result: Result<Indicator, u8>) -> (u8, [u64; 5]) {
+    match result {
+        Ok(indicator) => (0, indicator_fields(indicator.value, indicator.status, indicator.format)),
+        Err(number) => (number, Back::new().indicator()),
     }
 }
 

@@ -1,9 +1,10 @@
 //! The cases of document 01 and of its readings, each with the bytes the paper gives; of document 02, the bench tree's listing, its
-//! sheet, and stray 10h.
+//! sheet and its Buslink frames, and stray 10h.
 use crate::input::{Call, Input};
 use crate::random::Random;
 use crate::strays::at_every_cut;
 use crate::tally::Tally;
+use second::buslink::{Station, RECORDS_SIZE};
 
 fn bytes(hex: &str) -> Vec<u8> {
     let digits: Vec<u8> = hex.bytes().filter(|byte| *byte != b' ').collect();
@@ -112,6 +113,27 @@ const SHEETS: [(&[u8], u8, [u8; 2]); 19] = [
     (b"", 17, [4, 0]),
 ];
 
+/// Buslink frames of the bench tree: base, sub and type, the number, identifier and data. The first is document 02's; the others
+/// have the identifiers of source 000, 4.2 and 4.4, and no probes. Its example 8-6 is no station.
+const FRAMES: [([u8; 3], u8, u32, &str); 8] = [
+    ([1, 2, 2], 0, 0x1555_0202, "08520082 00000002"),
+    ([1, 1, 4], 0, 0x1555_0401, "00000000 00000000"),
+    ([2, 4, 8], 0, 0x1555_0809, "00000000 00000000"),
+    ([8, 4, 9], 0, 0x1555_0927, "00000000 00000000"),
+    ([8, 5, 9], 0, 0x1555_0928, "00000000 00000000"),
+    ([8, 6, 9], 19, 0, ""),
+    ([1, 4, 0], 19, 0, ""),
+    ([1, 2, 10], 19, 0, ""),
+];
+
+/// Data that 1-2 receives as indicators 1 and 2: which are usable, and each one's value, status and format.
+const INDICATORS: [(&str, u64, [(i32, u8, u8); 2]); 4] = [
+    ("08520082 00000002", 1, [(21_000, 0x80, 2), (0, 0, 2)]),
+    ("FFFFFFBF FFFF7F80", 3, [(-1, 0xB8, 7), (8_388_607, 0x80, 0)]),
+    ("000080C1 00008086", 2, [(-8_388_608, 0xC0, 1), (-8_388_608, 0x80, 6)]),
+    ("01000040 0001007F", 0, [(1, 0x40, 0), (256, 0x78, 7)]),
+];
+
 pub fn run(random: &Random, tally: &mut Tally) {
     for (stream, handed) in STREAMS {
         let stream = bytes(&stream.replace('*', &"00".repeat(258)));
@@ -122,6 +144,8 @@ pub fn run(random: &Random, tally: &mut Tally) {
     list_all(tally);
     write_sheets(tally);
     read_sheets(tally);
+    send_frames(tally);
+    receive_frames(tally);
     serve_all(tally);
     read_all(tally);
     find_all(tally);
@@ -180,6 +204,34 @@ fn read_sheets(tally: &mut Tally) {
         (cells[13], cells[18]) = (average, rate);
         let seen = tally.compare(&input);
         tally.expect(seen.number == number && *seen.lent.cells == cells, "the sheet is read as the paper says", &input);
+    }
+}
+
+fn send_frames(tally: &mut Tally) {
+    let tree = second::bench::tree().write();
+    for ([base, sub, kind], number, identifier, data) in FRAMES {
+        let mut input = Input { tree: &tree, cells: &second::bench::CELLS, kind, ..Input::of(Call::BuslinkSend) };
+        (input.station, input.room) = (Station { base, sub }, 8);
+        let seen = tally.compare(&input);
+        let same = seen.number == number && seen.fields[0] == identifier.into();
+        tally.expect(same && (number != 0 || *seen.lent.out == bytes(data)), "the frame is the paper's", &input);
+    }
+}
+
+fn receive_frames(tally: &mut Tally) {
+    let station = Station { base: 1, sub: 2 };
+    for (data, usable, indicators) in INDICATORS {
+        let data = bytes(data);
+        let mut input = Input { station, value: 0x1555_0202, bytes: &data, ..Input::of(Call::BuslinkReceive) };
+        input.records = &[0; RECORDS_SIZE];
+        let seen = tally.compare(&input);
+        tally.expect(seen.number == 0 && seen.fields[0] == usable, "these are usable", &input);
+        for (index, (value, status, format)) in (1..).zip(indicators) {
+            let input = Input { records: &seen.lent.records, index, ..Input::of(Call::BuslinkIndicator) };
+            let seen = tally.compare(&input);
+            let same = seen.fields[..3] == [u64::from(value as u32), status.into(), format.into()];
+            tally.expect(seen.number == 0 && same, "the indicator is the paper's", &input);
+        }
     }
 }
 

@@ -1,4 +1,5 @@
 //! An input to a call, and what a call made of it.
+use second::buslink::Station;
 
 #[derive(Clone, Copy, Debug, PartialEq, Eq)]
 #[repr(usize)]
@@ -16,6 +17,10 @@ pub enum Call {
     List,
     WriteSheet,
     ReadSheet,
+    BuslinkSend,
+    BeginBuslink,
+    BuslinkReceive,
+    BuslinkIndicator,
     ServeData,
     ServeSerial,
     ServeUdp,
@@ -32,7 +37,7 @@ pub enum Call {
 use Call::*;
 
 /// Every call with its name and the numbers that it must have been seen to return.
-pub const CALLS: [(Call, &str, &[u8]); 24] = [
+pub const CALLS: [(Call, &str, &[u8]); 28] = [
     (StateSize, "pq_state_size", &[0]),
     (BeginStream, "pq_begin_stream", &[0, 1]),
     (Feed, "pq_feed", &[0, 1, 3, 4, 5, 6, 7, 8, 255]),
@@ -46,6 +51,10 @@ pub const CALLS: [(Call, &str, &[u8]); 24] = [
     (List, "pq_list", &[0, 1, 8]),
     (WriteSheet, "pq_write_sheet", &[0, 1, 8, 17, 18]),
     (ReadSheet, "pq_read_sheet", &[0, 1, 17, 18]),
+    (BuslinkSend, "pq_buslink_send", &[0, 1, 8, 19]),
+    (BeginBuslink, "pq_begin_buslink", &[0, 1]),
+    (BuslinkReceive, "pq_buslink_receive", &[0, 1, 19, 20]),
+    (BuslinkIndicator, "pq_buslink_indicator", &[0, 1, 19]),
     (ServeData, "pq_serve_data", &[0, 1, 4, 5, 8, 9, 10, 11, 12, 13]),
     (ServeSerial, "pq_serve_serial", &[0, 1, 2, 3, 4, 5, 6, 7, 8, 9, 10, 11, 12, 13]),
     (ServeUdp, "pq_serve_udp", &[0, 1, 2, 4, 5, 8, 9, 10, 11, 12, 13]),
@@ -66,6 +75,10 @@ pub struct Input<'a> {
     pub tree: &'a [u8],
     pub cells: &'a [u8],
     pub state: &'a [u8],
+    /// Of Buslink: the records, a station, a frame's type. The identifier of a frame is the value, an indicator's number the index.
+    pub records: &'a [u8],
+    pub station: Station,
+    pub kind: u8,
     pub bytes: &'a [u8],
     pub address: u8,
     pub host: u8,
@@ -84,6 +97,9 @@ impl<'a> Input<'a> {
             tree: &[],
             cells: &[],
             state: &[],
+            records: &[],
+            station: Station::default(),
+            kind: 0,
             bytes: &[],
             address: 0,
             host: 0,
@@ -98,11 +114,16 @@ impl<'a> Input<'a> {
 
     pub fn show(&self) -> String {
         format!(
-            "{} tree={} cells={} state={} bytes={} address={:02X} host={} op={} index={} ready={} value={:08X} place={} room={}",
+            "{} tree={} cells={} state={} records={} station={}-{} type={} bytes={} address={:02X} host={} op={} index={} \
+             ready={} value={:08X} place={} room={}",
             CALLS[self.call as usize].1,
             hex(self.tree),
             hex(self.cells),
             hex(self.state),
+            hex(self.records),
+            self.station.base,
+            self.station.sub,
+            self.kind,
             hex(self.bytes),
             self.address,
             self.host,
@@ -130,6 +151,7 @@ pub struct Lent {
     pub tree: Box<[u8]>,
     pub cells: Box<[u8]>,
     pub state: Box<[u8]>,
+    pub records: Box<[u8]>,
     pub bytes: Box<[u8]>,
     pub out: Box<[u8]>,
 }
@@ -140,16 +162,18 @@ impl Lent {
             tree: input.tree.into(),
             cells: input.cells.into(),
             state: input.state.into(),
+            records: input.records.into(),
             bytes: input.bytes.into(),
             out: (0..input.room).map(pattern).collect(),
         }
     }
 
-    fn parts(&self) -> [(&'static str, &[u8]); 5] {
+    fn parts(&self) -> [(&'static str, &[u8]); 6] {
         [
             ("tree", &self.tree),
             ("cells", &self.cells),
             ("state", &self.state),
+            ("records", &self.records),
             ("bytes", &self.bytes),
             ("out", &self.out),
         ]

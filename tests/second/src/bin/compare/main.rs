@@ -1,6 +1,8 @@
 //! Compares the library with the second implementation on drawn inputs.
 //!
 //! Usage: compare [N [SEED]]. N multiplies the number of inputs (1 where it is not given; it may be a fraction).
+mod buslink;
+mod buslink_sweep;
 mod calls;
 mod cases;
 mod draft;
@@ -41,6 +43,7 @@ fn main() {
         largest::run(&random, &mut tally);
         listings::run(&mut tally);
         sheet_sweep::run(&random, &mut tally);
+        buslink_sweep::run(&random, &mut tally);
     }
     for round in 0..(ROUNDS * times) as usize {
         trees::run(&random, &mut tally, round);
@@ -48,6 +51,7 @@ fn main() {
         requests::run(&random, &mut tally);
         streams::run(&random, &mut tally);
         strays::run(&random, &mut tally);
+        buslink::run(&random, &mut tally, round);
     }
     std::process::exit(if tally.report() { 0 } else { 1 });
 }

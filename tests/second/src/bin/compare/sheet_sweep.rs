@@ -20,7 +20,8 @@ pub fn run(random: &Random, tally: &mut Tally) {
     every_place(random, tally);
 }
 
-fn tree_of(properties: Vec<DraftProperty>) -> Draft {
+/// A tree of one node.
+pub fn tree_of(properties: Vec<DraftProperty>) -> Draft {
     Draft { nodes: vec![(0, Vec::new())], properties }
 }
 

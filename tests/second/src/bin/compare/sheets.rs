@@ -59,7 +59,7 @@ pub fn range(property: &DraftProperty) -> RangeInclusive<i64> {
     }
 }
 
-fn number_of(property: &DraftProperty, word: u32) -> i64 {
+pub fn number_of(property: &DraftProperty, word: u32) -> i64 {
     if is_signed(property) {
         i64::from(word as i32)
     } else {

@@ -1,4 +1,5 @@
 //! Inputs that are few enough to be given all: each byte at each place, each length, each room, each short string.
+use crate::buslink;
 use crate::input::{Call, Input};
 use crate::listings;
 use crate::requests::{content, wrapped};
@@ -58,6 +59,8 @@ fn rooms(tally: &mut Tally, tree: &[u8]) {
         listings::list(tally, &tree[1..], room);
         sheets::write(tally, tree, &bench::CELLS, room);
         sheets::write(tally, &tree[1..], &bench::CELLS, room);
+        buslink::send_into(tally, tree, &bench::CELLS, room);
+        buslink::send_into(tally, &tree[1..], &bench::CELLS, room);
         for call in [Call::Frame, Call::Datagram, Call::WriteSerial, Call::WriteUdp] {
             tally.compare(&Input { room, bytes: &[1], op: 2, index: 1, address: ADDRESS, ..Input::of(call) });
         }
@@ -136,6 +139,7 @@ fn trees_changed(tally: &mut Tally, tree: &[u8]) {
         }
         listings::near(tally, changed);
         sheets::near(tally, changed, &bench::CELLS);
+        buslink::near(tally, changed, &bench::CELLS);
         for place in 0..=5 {
             tally.compare(&Input { call: Call::Reading, place, ..input });
         }
@@ -146,6 +150,7 @@ fn trees_changed(tally: &mut Tally, tree: &[u8]) {
         tally.compare(&Input { tree, cells, ..Input::of(Call::Check) });
         tally.compare(&Input { tree, cells, ..Input::of(Call::RestoreCells) });
         sheets::near(tally, tree, cells);
+        buslink::near(tally, tree, cells);
         for place in 0..=5 {
             tally.compare(&Input { tree, cells, place, ..Input::of(Call::Reading) });
         }

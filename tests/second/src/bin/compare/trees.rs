@@ -1,4 +1,5 @@
-//! Trees and cells: checked, listed, posted to, read, restored, their sheets, and requests served over them.
+//! Trees and cells: checked, listed, posted to, read, restored, their sheets and frames, and requests served over them.
+use crate::buslink;
 use crate::draft::{broken, Draft, BREAKS};
 use crate::input::{Call, Input};
 use crate::listings;
@@ -38,6 +39,7 @@ pub fn check(tally: &mut Tally, tree: &[u8], cells: &[u8], numbers: Option<[u8; 
     tally.compare(&Input { tree, ..Input::of(Call::CellsSize) });
     listings::near(tally, tree);
     sheets::near(tally, tree, cells);
+    buslink::near(tally, tree, cells);
 }
 
 fn begin(random: &Random, tally: &mut Tally, tree: &[u8], properties: usize) {
