@@ -19,6 +19,8 @@ use buslink::table;
 use frame::Written;
 use frame::buffer;
 use protocol::DONE;
+ghost use Rattle.protocol.specs.Bytes.{word};
+ghost use Rattle.protocol.specs.Buffer.{Put, fitting};
 
 // Stands for the length where a kind is not known.
 pub const UNKNOWN: usize = usize::MAX;
@@ -32,7 +34,9 @@ pub struct Bus {
 }
 
 // A number of 32 bits, put at a place of an output, the high byte first. Returns the next place.
-pub fn put_word(n: u32, out: &mut [u8], at: usize) -> usize {
+pub fn put_word(n: u32, out: &mut [u8], at: usize) -> usize
+    ensures { λ r. ⌜ Put at (fitting at (word n) (now (out .entry))) (now (out .entry)) r (now (out .exit)) ⌝ }
+{
     let bytes = [
         (n / 16777216 % 256) as u8,
         (n / 65536 % 256) as u8,

@@ -31,11 +31,6 @@ module _ (base sub : ℕ) where
         sub-to = leb-true sub 5 (and-right (leb 1 sub) _ subs);
       }
 
-  pub station-made : Station base sub → isStation base sub ≡ true
-  unfolding isStation
-  station-made s =
-      and-both (le-leb 1 base (s .base-from)) (and-both (le-leb base 8 (s .base-to)) (and-both (le-leb 1 sub (s .sub-from)) (le-leb sub 5 (s .sub-to))))
-
   -- The tests, one after the other.
   pub no-base : base < 1 → false ≡ isStation base sub
   unfolding isStation
@@ -58,10 +53,6 @@ module _ (kind : ℕ) where
   pub type-parts : isIndicatorType kind ≡ true → (2 ≤ kind) × (kind ≤ 9)
   unfolding isIndicatorType
   type-parts h = (leb-true 2 kind (and-left (leb 2 kind) _ h), leb-true kind 9 (and-right (leb 2 kind) _ h))
-
-  pub type-made : 2 ≤ kind → kind ≤ 9 → isIndicatorType kind ≡ true
-  unfolding isIndicatorType
-  type-made h k = and-both (le-leb 2 kind h) (le-leb kind 9 k)
 
   pub low-type : kind < 2 → false ≡ isIndicatorType kind
   unfolding isIndicatorType

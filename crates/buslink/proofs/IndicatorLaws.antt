@@ -94,6 +94,8 @@ unfolding bytesOf indicatorIn
 read-back i bs s =
     let v : ℕ = i .value in
     let e : v % 2 ^ 8 + v / 2 ^ 8 % 2 ^ 8 * 2 ^ 8 + v / 2 ^ 16 % 2 ^ 8 * 2 ^ 16 ≡ v % 2 ^ 24 = omega (arith, div-div-eq-div-mul v (2 ^ 8) (2 ^ 8)) in
-    let st : (i .status + i .format) / 2 ^ 3 * 2 ^ 3 ≡ i .status = omega (arith, s .status, s .format) in
-    let fo : (i .status + i .format) % 2 ^ 3 ≡ i .format = omega (arith, s .status, s .format) in
-    rw (ap extended e ∙ s .value, st, fo)
+    let whole : i .status ≡ i .status / 2 ^ 3 * 2 ^ 3 = omega (arith, s .status) in
+    let parts = packing .parted 3 (i .status / 2 ^ 3) (i .format) (s .format) in
+    let status : (i .status + i .format) / 2 ^ 3 * 2 ^ 3 ≡ i .status = ap (λ n. (n + i .format) / 2 ^ 3 * 2 ^ 3) whole ∙ ap (λ n. n * 2 ^ 3) (parts .0) ∙ sym whole in
+    let format : (i .status + i .format) % 2 ^ 3 ≡ i .format = ap (λ n. (n + i .format) % 2 ^ 3) whole ∙ parts .1 in
+    rw (ap extended e ∙ s .value, status, format)

@@ -35,7 +35,7 @@ use Rattle.buslink.proofs.ReceiveLaws.{judged-parts}
 use Rattle.buslink.proofs.ArriveLaws.{word-small, sent-format, fitting-sent, beyond-sent, first-arrives, second-arrives, data-length, table-stored, stored-whole, records-count, first-stored, second-stored, others-stored}
 use Rattle.buslink.proofs.ExampleLaws.{bench-data}
 use Rattle.demands.specs.Buslink.Carries.{first, second}
-use Rattle.demands.specs.Buslink.{SendsFrame, ReceivesFrame, recordOf, Carries, Arrives, AlikeButUnready, Shows, BuslinkKeeps}
+use Rattle.demands.specs.Buslink.{SendsFrame, ReceivesFrame, recordOf, Carries, Arrives, AlikeButUnready, Shows, BuslinkKeeps, BenchFrame}
 use Rattle.demands.proofs.Forms.{tree-read, cells-read, forms-lent}
 
 -- What a frame that was sent rests on.
@@ -392,6 +392,5 @@ bench-sent room h =
     (forms-lent benchTree benchCells bench-sound bench-cells-sound, le-ltb room 8 h, tree-read benchTree benchCells bench-sound bench-cells-sound, cells-read benchTree benchCells bench-sound bench-cells-sound, bench-data)
     refl
 
-pub bench-frame : (old : List ℕ) {n i : ℕ} {new : List ℕ} → SendsFrame (treeForm benchTree) (cellsForm benchCells) 1 2 2 old n i new → 8 ≤ length old
-    → (n ≡ done) × ((i ≡ 0x15550202) × (new ≡ over frameData old))
-bench-frame old s h = sends-as _ _ (bench-sent (length old) h) s
+pub bench-frame : BenchFrame
+bench-frame old n i new s h = sends-as _ _ (bench-sent (length old) h) s

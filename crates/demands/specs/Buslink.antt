@@ -1,5 +1,5 @@
 -- 02, section 5, Buslink beside PDI: what the calls that send and receive frames come to.
-use Prim.Native.Nat.{ℕ, _+_, _-_, _<_}
+use Prim.Native.Nat.{ℕ, _+_, _-_, _<_, _≤_}
 use mathlib.Core.Path.{_≡_}
 use mathlib.Core.Bool.{true, false, cond}
 use mathlib.Core.List.{List}
@@ -8,17 +8,21 @@ use lib.ListN.{length, getD, take}
 use lib.Dec.{eqb}
 use Rattle.protocol.specs.Numbers.{done, badIdentifier}
 use Rattle.protocol.specs.Bytes.{Bytes, bit}
+use Rattle.protocol.specs.Buffer.{over}
+use Rattle.protocol.specs.Bench.{benchTree, benchCells}
 use Rattle.protocol.specs.Tree.{Tree, Cell, isLive, numbered, propertyIn, cellIn, reading}
 use Rattle.protocol.specs.Answer.{takesSign}
 use Rattle.protocol.specs.Signed.{numberOf, integerOf}
+use Rattle.tree.specs.Form.{treeForm}
 use Rattle.tree.specs.Seen.{seen}
-use Rattle.cells.specs.Cells.{cellsIn}
+use Rattle.cells.specs.Cells.{cellsForm, cellsIn}
 use Rattle.cells.specs.Lent.{isLent}
 use Rattle.buslink.specs.declared.indicator.Indicator.{Indicator}
 use Rattle.buslink.specs.Identifier.{typeIn, lastType}
 use Rattle.buslink.specs.Indicator.{bitAvailable, bitError, blank, isUsable}
 use Rattle.buslink.specs.Send.{probesOf, decimals, scaled, fits, unready, indicatorOf, firstOf, sendIn, Sends}
 use Rattle.buslink.specs.Receive.{mark, isTable, recordsIn, receiveList, receiveTable, Receives, toldIn}
+use Rattle.buslink.specs.Examples.{frameData}
 
 -- A call that sends a frame, and one that receives one into a table.
 abbrev pub SendsFrame : List ℕ → List ℕ → ℕ → ℕ → ℕ → List ℕ → ℕ → ℕ → List ℕ → Type 0
@@ -97,3 +101,9 @@ pub record BuslinkKeeps : Type 0 where
   -- Usable exactly with AVAILABLE set and ERROR clear.
   pub usable : (i : Indicator) → isUsable i ≡ true → (bit bitAvailable (i .status) ≡ true) × (bit bitError (i .status) ≡ false)
   pub usable-made : (i : Indicator) → bit bitAvailable (i .status) ≡ true → bit bitError (i .status) ≡ false → isUsable i ≡ true
+
+-- The section's example: box 1-2, probe 1 ready at 21.00 and probe 2 open, sent from the bytes of the bench tree and its cells.
+abbrev pub BenchFrame : Type 0
+BenchFrame =
+    (old : List ℕ) (n i : ℕ) (new : List ℕ) → SendsFrame (treeForm benchTree) (cellsForm benchCells) 1 2 2 old n i new → 8 ≤ length old
+    → (n ≡ done) × ((i ≡ 0x15550202) × (new ≡ over frameData old))
