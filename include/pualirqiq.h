@@ -37,8 +37,9 @@
 #include <stdint.h>
 
 /* Grows when the interface changes. 1: with pq_word and pq_is_ready. 2: pq_reading and pq_restore_cells in their place.
- * 3: pq_list. 4: pq_feed passes over stray 10h. 5: pq_write_sheet and pq_read_sheet. 6: Buslink. */
-#define PQ_VERSION 6
+ * 3: pq_list. 4: pq_feed passes over stray 10h. 5: pq_write_sheet and pq_read_sheet. 6: Buslink. 7: steps; a tree with a step code
+ * of 12 to 15 in type 1 is no longer sound. */
+#define PQ_VERSION 7
 
 /* In C, an array of at least so many elements: compilers warn of a shorter one. */
 #if defined(__STDC_VERSION__) && __STDC_VERSION__ >= 199901L && !defined(__cplusplus)
@@ -65,7 +66,7 @@ enum {
     PQ_ROOM_BUSLINK = 8   /* the data of a Buslink frame, and the least room for it */
 };
 
-/* Numbers returned (document 01; 17 and 18: document 02, section 3; 19 and 20: section 5). */
+/* Numbers returned (document 01; 17 and 18: document 02, section 3; 19 and 20: section 5). Steps: section 6. */
 enum {
     PQ_DONE = 0,
     PQ_UNSOUND = 1,          /* tree, cells, state or records have no sound form, or do not fit each other */
@@ -81,10 +82,11 @@ enum {
     PQ_UNKNOWN_COMMAND = 10, /* not B4, or an op above 5 */
     PQ_BAD_PARAMETER = 11,   /* not what the op asks for; no such node or property */
     PQ_NO_READING = 12,      /* no read attribute, or live and not ready */
-    PQ_NOT_SAVED = 13,       /* a write without write attribute, or out of range */
+    PQ_NOT_SAVED = 13,       /* a write without write attribute, out of range, or off its step */
     PQ_NOT_LIVE = 14,        /* a posting to a property that does not exist or is not live */
     PQ_BAD_SHEET = 17,       /* no sheet of this tree, or labels of settings that cannot be written */
-    PQ_NOT_IN_RANGE = 18,    /* a number on a sheet, or a word to be written there, is out of range or of 32 bits */
+    PQ_NOT_IN_RANGE = 18,    /* a number on a sheet, or a word to be written there, is out of range or of 32 bits, or off its
+                                step */
     PQ_BAD_IDENTIFIER = 19,  /* Buslink: no such station, type or indicator; received, not the station's identifier */
     PQ_BAD_LENGTH = 20,      /* Buslink: a frame of the station with not 8 bytes of data */
     PQ_NO_FRAME = 255        /* pq_feed: all bytes were taken and no frame ended; no refusal */
@@ -147,7 +149,7 @@ uint8_t pq_list(const uint8_t *tree, size_t tree_len, uint8_t *out, size_t out_l
 /* How many bytes the cells of a tree take. 0 where it is not sound, and where it has no properties. */
 size_t pq_cells_size(const uint8_t *tree, size_t tree_len);
 
-/* Cells that begin: no probe ready, and every word 0, also where that is outside a setting's range.
+/* Cells that begin: no probe ready, and every word 0, also where that is outside a setting's range or off its step.
  * 1: the tree is not sound, or cells_len is not its pq_cells_size. 0. */
 uint8_t pq_begin_cells(const uint8_t *tree, size_t tree_len, uint8_t *cells, size_t cells_len);
 
@@ -183,19 +185,22 @@ uint8_t pq_reading(const uint8_t *tree, size_t tree_len, const uint8_t *cells, s
  *   1        as pq_check                                  0                        as it was
  *   17       a setting's label has a "=" in it, or is     0                        as it was
  *            that of another setting too
- *   18       a setting holds a word out of its range      0                        as it was
+ *   18       a setting holds a word out of its range,     0                        as it was
+ *            or off its step
  *   8        out_len is shorter than the sheet            the sheet's length       as it was
  *   0                                                     the sheet's length       the sheet, with no zero behind it
  *
  * With PQ_ROOM_SHEET there is always enough room, and nothing is counted first. 18 is met after pq_begin_cells where 0 is out of a
- * range: read a sheet of factory settings first, as example/main.c does. */
+ * range or off a step: read a sheet of factory settings first, as example/main.c does. It is met, too, with cells that were saved
+ * before their tree had steps. */
 uint8_t pq_write_sheet(const uint8_t *tree, size_t tree_len, const uint8_t *cells, size_t cells_len, uint8_t *out,
     size_t out_len, size_t *len);
 
 /* The settings of a sheet stored in the cells, all of them or none. Just the sheets that pq_write_sheet writes for this tree are
  * taken, from any box with the same tree: each line in its place, written as it would write it, and nothing before, between or
  * behind. 1: as pq_check. 17: a label that cannot be written (as above), or not such a sheet, whatever its numbers. 18: a number is
- * out of its setting's range, or of 32 bits. 0: each setting holds its number; marks and every other word are as they were. */
+ * out of its setting's range, or of 32 bits, or off its step. 0: each setting holds its number; marks and every other word are as
+ * they were. */
 uint8_t pq_read_sheet(const uint8_t *tree, size_t tree_len, uint8_t *cells, size_t cells_len, const uint8_t *sheet,
     size_t sheet_len);
 
@@ -205,10 +210,18 @@ uint8_t pq_read_sheet(const uint8_t *tree, size_t tree_len, uint8_t *cells, size
  *
  *   1 to 8           *len is 0; nothing is written
  *   9, 10, 11, 12    the reply is the one byte 57, 59, 54, 58 (hex); no cell is changed
- *   13               the reply to a write, with save 00; no cell is changed
+ *   13               the reply to a write, with save 00 and for op 5 the reason, "Read only", "Range" or "Step", tested in that
+ *                    order; no cell is changed
  *   0                the reply; an accepted write is in the cells
  *
- * *action is PQ_NO_ACTION, but for 0 with a write to an action: then it is that property's place, and no cell is changed. */
+ * *action is PQ_NO_ACTION, but for 0 with a write to an action: then it is that property's place, and no cell is changed. An
+ * action takes any value.
+ *
+ * Steps. Format bits 11 to 8 of a property of type 1 are its step code: 0 to 11 for 1, 2, 5, 10, 20, 50, 100, 200, 500, 1000,
+ * 2000 and 5000. A value in range is saved in a setting where its distance from min (from 0 where min and max are both 0) is a
+ * multiple of the step; both are signed where format bit 15 is set. Max itself need not be on the step. A word that is posted is
+ * not held to it, nor one that a setting holds already. A step above 1 costs a division of 32 bits for each value that is
+ * written, and for each number on a sheet. */
 
 /* Request data, as pq_feed hands it up. The reply is data too, for pq_frame. out must not be the request's buffer.
  * 1: as pq_check. 8: out_len is under PQ_ROOM_DATA. 4: no data. 5: more than 256 bytes. 9, 10, 11, 12, 13. 0. */
@@ -323,13 +336,13 @@ uint8_t pq_write_udp(uint8_t op, const uint8_t *path, size_t path_len, uint8_t i
  * address, and without its arguments, which are the caller's, and without what memcpy and memset take themselves.
  *
  *   pq_begin_buslink         8      pq_datagram_data         8      pq_restore_cells       264
- *   pq_begin_cells         248      pq_feed                 48      pq_serve_data          424
- *   pq_begin_stream         24      pq_frame                16      pq_serve_serial        696
- *   pq_buslink_indicator     8      pq_list               4720      pq_serve_udp           424
+ *   pq_begin_cells         248      pq_feed                 48      pq_serve_data          440
+ *   pq_begin_stream         24      pq_frame                16      pq_serve_serial        712
+ *   pq_buslink_indicator     8      pq_list               4720      pq_serve_udp           440
  *   pq_buslink_receive       8      pq_post                280      pq_state_size            8
  *   pq_buslink_send        360      pq_read_frame          105      pq_write_serial        184
- *   pq_cells_size          232      pq_read_serial         232      pq_write_sheet        1024
- *   pq_check               248      pq_read_sheet          408      pq_write_udp           184
+ *   pq_cells_size          232      pq_read_serial         232      pq_write_sheet        1008
+ *   pq_check               248      pq_read_sheet          392      pq_write_udp           184
  *   pq_check_tree          216      pq_read_udp            184
  *   pq_datagram              8      pq_reading             280
  *

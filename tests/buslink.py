@@ -102,17 +102,18 @@ def on_bench(program):
         program.compare(["receive", *map(str, station)], b"", 2, "", "refused=19\n")
 
 
-# What is no tree, whatever the station and the readings.
+# What is no tree, whatever the station and the readings; a step code that means nothing among it.
 def on_broken(program):
-    form = cases.bench().form()
-    for broken in (b"", form[:-1], form + b"\0", form[1:], bytes(27331), bytes(300000), form + bytes(30000)):
+    form, coded = cases.bench().form(), cases.CODED["live 12"]().form()
+    for broken in (b"", form[:-1], form + b"\0", form[1:], bytes(27331), bytes(300000), form + bytes(30000), coded):
         program.send(broken, (1, 2), [2100], 1)
         program.send(broken, (9, 9), [], 1)
 
 
 def draw_property():
     attribute, kind = random.choice([0x2001] * 6 + [3, 2, 1, 0]), random.choice([1, 1, 2])
-    fmt = random.randrange(8) + random.choice([0, 0x8000]) + random.choice([0, 0x1080, 0x0B00, 0x7078])
+    others = [0, 0x1080, 0x0B00, 0x7078] + [0x0C00, 0x7F78] * (kind == 2)
+    fmt = random.randrange(8) + random.choice([0, 0x8000]) + random.choice(others)
     return 0, kind, 0, 0, attribute, fmt, b"", [b""], 0, 0
 
 

@@ -189,7 +189,30 @@ def in_range(p, number):
     return number_of(p, p[2]) <= number <= number_of(p, p[3])
 
 
+# 02, section 6: what the step codes mean. One that means nothing breaks the tree, in type 1 alone: type 2 has no step.
+STEPS = [1, 2, 5, 10, 20, 50, 100, 200, 500, 1000, 2000, 5000]
+
+
+def is_stepped(p):
+    return p[1] != 1 or p[5] >> 8 & 15 < len(STEPS)
+
+
+def is_broken(tree):
+    return not all(map(is_stepped, tree.properties))
+
+
+# Whether a number is so many whole steps from min, which is 0 where there is no range.
+def on_step(p, number):
+    return p[1] != 1 or (number - number_of(p, p[2])) % STEPS[p[5] >> 8 & 15] == 0
+
+
+def may_hold(p, number):
+    return in_range(p, number) and on_step(p, number)
+
+
 def serve(tree, host, d):
+    if is_broken(tree):
+        return 1, b""
     if size(d):
         return size(d), b""
     if not host:
@@ -221,6 +244,8 @@ def serve(tree, host, d):
         number, save, text = 0, 2, b""
     elif not in_range(p, number_of(p, value)):
         number, save, text = 13, 0, b"Range"
+    elif not on_step(p, number_of(p, value)):
+        number, save, text = 13, 0, b"Step"
     else:
         cell[0] = value
         number, save, text = 0, 1, b""
@@ -308,23 +333,27 @@ def taken_apart(four):
 
 
 def sheet(tree):
-    """The number and the sheet: 17, 18 or 0."""
+    """The number and the sheet: 1, 17, 18 or 0."""
+    if is_broken(tree):
+        return 1, b""
     numbers = [number_of(p, tree.cells[place][0]) for place, p in settings(tree)]
     if not is_writable(tree):
         return 17, b""
-    if not all(in_range(p, number) for (_, p), number in zip(settings(tree), numbers)):
+    if not all(may_hold(p, number) for (_, p), number in zip(settings(tree), numbers)):
         return 18, b""
     return 0, b"".join(b"%b=%d\n" % (p[6], number) for (_, p), number in zip(settings(tree), numbers))
 
 
 def load(tree, text):
-    """The number of a sheet that is read: 17, 18 or 0. With 0 the cells have its numbers."""
+    """The number of a sheet that is read: 1, 17, 18 or 0. With 0 the cells have its numbers."""
+    if is_broken(tree):
+        return 1
     line = lambda p: re.escape(p[6]) + (b"=(0|-?[1-9][0-9]*)\n" if is_signed(p) else b"=(0|[1-9][0-9]*)\n")
     found = re.fullmatch(b"".join(line(p) for _, p in settings(tree)), text)
     if not is_writable(tree) or found is None:
         return 17
     numbers = [int(number) for number in found.groups()]
-    if not all(in_range(p, number) for (_, p), number in zip(settings(tree), numbers)):
+    if not all(may_hold(p, number) for (_, p), number in zip(settings(tree), numbers)):
         return 18
     for (place, _), number in zip(settings(tree), numbers):
         tree.cells[place][0] = number % 2**32
@@ -397,6 +426,51 @@ def penko():
         (points[2], 1, 0, 99999, 3, 0, b"Add", [b""], 0, 0),
     ]
     return Tree(nodes, properties)
+
+
+# 02, section 6: a tree of one property, "A".
+def single(kind, least, most, attribute, fmt, word=0):
+    options = [b""] * (most + 1 if kind == 2 else 1)
+    return Tree([(0, b"")], [(0, kind, least % 2**32, most % 2**32, attribute, fmt, b"A", options, word % 2**32, 1)])
+
+
+# Two settings in steps of 5, 0 to 20 and 1 to 21.
+def pair():
+    setting = lambda label, least, word: (0, 1, least, least + 20, 3, 0x0200, label, [b""], word, 0)
+    return Tree([(0, b"")], [setting(b"A", 0, 10), setting(b"B", 1, 11)])
+
+
+# -7 to 7 in steps of 5: -7, -2, 3. 1 to 64 in steps of 10: 1, 11, .. 61. No range, in steps of 5, signed and not. The widest range, an
+# action, a property with read alone and a live one, in steps of 5000. Type 2 with codes for 5 and for nothing.
+STEPPED = {
+    "gap": lambda word=3: single(1, -7, 7, 3, 0x8200, word),
+    "rise": lambda word=61: single(1, 1, 64, 3, 0x0300, word),
+    "offset": lambda word=-10: single(1, 0, 0, 3, 0x8200, word),
+    "total": lambda word=2**32 - 1: single(1, 0, 0, 3, 0x0200, word),
+    "widest": lambda: single(1, -(2**31), 2**31 - 1, 3, 0x8B00),
+    "go": lambda: single(1, 0, 10000, 2, 0x0B00),
+    "meter": lambda: single(1, 0, 10000, 1, 0x0B00, 7),
+    "level": lambda: single(1, 0, 0, 0x2001, 0x8B00, 5000),
+    "mode_2": lambda: single(2, 0, 3, 3, 0x0280),
+    "mode_12": lambda: single(2, 0, 3, 3, 0x0C80),
+    "mode_15": lambda: single(2, 0, 3, 3, 0x8F80),
+    "rise_stored": lambda: STEPPED["rise"](4),
+}
+
+# Properties of type 1 with each step code.
+SORTS = {"setting": 3, "live": 0x2001, "action": 2, "read alone": 1}
+CODED = {
+    f"{sort} {code}": lambda attribute=attribute, code=code: single(1, 0, 0, attribute, code << 8)
+    for sort, attribute in SORTS.items() for code in range(16)
+}
+
+
+def to_single(op, value):
+    """A write to the one property."""
+    return bytes([0xB4, op, 1, 1, 0]) + (value % 2**32).to_bytes(4, "big")
+
+
+READ_SINGLE = H("B4030101")
 
 
 PING = frame(0, H("B400"))
@@ -623,6 +697,63 @@ CASES = [
     ("sum/6 saturated", "feed", 0xFF, H("1002FF01001003")),
     ("sum/6 end-around carry", "read_frame", 0xFF, H("1002FF01FE1003")),
     ("sum/6 not taken from 255", "read_frame", 0, H("100200B400B41003")),
+    # 02, section 6: steps at both ends of a range and across 0, from 0 where there is no range, signed and not; each code; sheets.
+    ("step/0 min", "gap", to_single(5, -7)),
+    ("step/0 across 0", "gap", to_single(5, -2), READ_SINGLE),
+    ("step/0 the last multiple", "gap", to_single(5, 3)),
+    ("step/13 a multiple from 0, not from min", "gap", to_single(5, 0)),
+    ("step/13 max", "gap", to_single(5, 7)),
+    ("step/13 op 4, the word stays", "gap", to_single(4, 7), READ_SINGLE),
+    ("step/13 Range, a multiple", "gap", to_single(5, 8)),
+    ("step/13 Range before Step", "gap", to_single(5, 9)),
+    ("step/13 Range below min", "gap", to_single(5, -12)),
+    ("step/0 from 1, the last multiple", "rise", to_single(4, 61)),
+    ("step/13 from 1, beside it", "rise", to_single(5, 60)),
+    ("step/13 from 1, max", "rise", to_single(5, 64)),
+    ("step/13 from 1, Range below min", "rise", to_single(5, 0)),
+    ("step/0 FFFFFFF6h, signed", "offset", to_single(5, 0xFFFFFFF6), READ_SINGLE),
+    ("step/13 FFFFFFFFh, signed", "offset", to_single(5, 0xFFFFFFFF)),
+    ("step/0 80000003h, signed", "offset", to_single(4, 0x80000003)),
+    ("step/13 80000000h, signed", "offset", to_single(5, 0x80000000)),
+    ("step/13 FFFFFFF6h, unsigned", "total", to_single(5, 0xFFFFFFF6)),
+    ("step/0 FFFFFFFFh, unsigned", "total", to_single(5, 0xFFFFFFFF)),
+    ("step/0 the widest, min", "widest", to_single(4, -(2**31))),
+    ("step/0 the widest, the last multiple", "widest", to_single(4, 2147481352)),
+    ("step/13 the widest, max", "widest", to_single(5, 2**31 - 1)),
+    ("step/13 the widest, 0", "widest", to_single(5, 0)),
+    ("step/0 an action", "go", to_single(5, 7)),
+    ("step/0 an action beyond its range", "go", to_single(5, 10007)),
+    ("step/13 Read only before Step", "meter", to_single(5, 7)),
+    ("step/0 a stored word off its step", "meter", READ_SINGLE),
+    ("step/0 a setting's word off its step", "rise_stored", READ_SINGLE),
+    ("step/0 a posting off its step", "post_level", 0, 7, 1),
+    ("step/0 type 2, code 2", "mode_2", to_single(5, 3)),
+    ("step/13 type 2, Range", "mode_2", to_single(5, 5)),
+    ("step/0 type 2, code 12", "mode_12", to_single(5, 3)),
+    ("step/0 type 2, code 15", "mode_15", to_single(5, 3)),
+    *[(f"step/0 code {code}", f"setting {code}", to_single(5, step)) for code, step in enumerate(STEPS)],
+    *[(f"step/13 code {code}", f"setting {code}", to_single(5, step - 1)) for code, step in enumerate(STEPS) if code],
+    *[(f"step/1 code {code}, {sort}", f"{sort} {code}", H("B400")) for sort in SORTS for code in range(12, 16)],
+    ("step/0 code 11, live", "live 11", H("B400")),
+    ("step/sheet/0", "sheet_gap"),
+    ("step/sheet/0 no range, signed", "sheet_offset"),
+    ("step/sheet/0 type 2, code 12", "sheet_mode_12"),
+    ("step/sheet/1 code 12, read alone", "sheet_read alone 12"),
+    ("step/sheet/18 max", "sheet_gap 7"),
+    ("step/sheet/18 a multiple from 0, not from min", "sheet_gap 0"),
+    ("step/sheet/18 FFFFFFF6h, unsigned", "sheet_total -10"),
+    ("step/load/0", "load_gap", b"A=-2\n"),
+    ("step/load/0 over a word off its step", "load_gap 7", b"A=-7\n"),
+    ("step/load/0 no range, signed", "load_offset", b"A=-2147483645\n"),
+    ("step/load/0 type 2, code 12", "load_mode_12", b"A=3\n"),
+    ("step/load/1 code 15, action", "load_action 15", b""),
+    ("step/load/18 max", "load_gap", b"A=7\n"),
+    ("step/load/18 a multiple from 0, not from min", "load_gap", b"A=0\n"),
+    ("step/load/18 a multiple out of range", "load_gap", b"A=8\n"),
+    ("step/load/18 FFFFFFF6h, unsigned", "load_total", b"A=4294967286\n"),
+    ("step/load/0 both", "load_pair", b"A=20\nB=21\n"),
+    ("step/load/18 the second, none stored", "load_pair", b"A=20\nB=20\n"),
+    ("step/load/17 behind an 18", "load_pair", b"A=7\nB=021\n"),
     # 003: the checksum of a sum of 1234h, and the examples of section 5.
     ("003/checksum", "write_frame", 0, b"\xFF" * 18 + b"\x46"),
     ("003/5.1", "penko", H("B400")),
@@ -638,7 +769,7 @@ CASES = [
     ("003/5.6 gain point", "penko", H("B4050103020201030100" "000186A0")),
 ]
 
-# What the documents print in full; of sheets and sums, what they come to.
+# What the documents print in full; of sheets, sums and steps, what they come to.
 SAYS = {
     "01/address 10h": "0 10021010B4003B1003",
     "01/10 02 10 03": "4 ",
@@ -658,6 +789,24 @@ SAYS = {
     "load/18 2^32 + 4": "18 0000083401" "0000213400" "0000000400" "0000000000" "0000000000",
     "sum/255": "0 1002FF00001003",
     "sum/256": "0 1002FF01FF1003",
+    "step/0 min": "0 B405010100" "FFFFFFF9" "0100",
+    "step/0 across 0": "0 B405010100" "FFFFFFFE" "0100",
+    "step/13 max": "13 B405010100" "00000007" "00" "5374657000",
+    "step/13 op 4, the word stays": "13 B404010100" "00000007" "00",
+    "step/13 Range before Step": "13 B405010100" "00000009" "00" "52616E676500",
+    "step/0 FFFFFFF6h, signed": "0 B405010100" "FFFFFFF6" "0100",
+    "step/13 FFFFFFF6h, unsigned": "13 B405010100" "FFFFFFF6" "00" "5374657000",
+    "step/0 the widest, the last multiple": "0 B404010100" "7FFFF708" "01",
+    "step/0 an action": "0 B405010100" "00000007" "0200",
+    "step/0 a setting's word off its step": "0 B4030101" "01" "00000004",
+    "step/0 a posting off its step": "0 00000007" "01",
+    "step/0 code 4": "0 B405010100" "00000014" "0100",
+    "step/13 code 11": "13 B405010100" "00001387" "00" "5374657000",
+    "step/1 code 12, live": "1 ",
+    "step/sheet/0": "0 413D330A",
+    "step/sheet/18 max": "18 ",
+    "step/load/0": "0 FFFFFFFE" "01",
+    "step/load/18 the second, none stored": "18 0000000A00" "0000000B00",
     "003/checksum": "0 100200" + "FF" * 18 + "46CB1003",
     "003/5.2 totals": "0 B40101010A0401546F74616C7300",
     "003/5.3 weigher": "0 B40201010301010100000000000000002001C00357656967686572004B6700",
@@ -685,6 +834,13 @@ SHEETS = {
     "sheet_equals": lambda: altered(label=b"Rate=1"),
     "sheet_same": lambda: altered(label=b"Average", word=65),
     "sheet_outside": lambda: altered(word=65),
+    "sheet_gap": STEPPED["gap"],
+    "sheet_gap 7": lambda: STEPPED["gap"](7),
+    "sheet_gap 0": lambda: STEPPED["gap"](0),
+    "sheet_offset": STEPPED["offset"],
+    "sheet_total -10": lambda: STEPPED["total"](-10),
+    "sheet_mode_12": STEPPED["mode_12"],
+    "sheet_read alone 12": CODED["read alone 12"],
 }
 LOADS = {
     "load": bench,
@@ -692,26 +848,35 @@ LOADS = {
     "load_cold_back": cold,
     "load_equals": lambda: altered(label=b"Rate=1"),
     "load_outside": lambda: altered(word=65),
+    "load_gap": STEPPED["gap"],
+    "load_gap 7": lambda: STEPPED["gap"](7),
+    "load_offset": STEPPED["offset"],
+    "load_total": STEPPED["total"],
+    "load_mode_12": STEPPED["mode_12"],
+    "load_action 15": CODED["action 15"],
+    "load_pair": pair,
 }
 
 
-# Frames sent: of which tree.
+# Frames sent, requests served, words posted: of which tree.
 BUSES = {"bus_send": bench, "bus_send_extremes": extremes}
+SERVED = {"data": bench, "twice": bench, "limits": limits, "penko": penko, **STEPPED, **CODED}
+POSTS = {"post": bench, "post_level": STEPPED["level"]}
 
 
 def tree_of(base):
-    return {"limits": limits, **BUSES, "penko": penko, "list_penko": penko, **SHEETS, **LOADS}.get(base, bench)()
+    return {"list_penko": penko, **BUSES, **SERVED, **POSTS, **SHEETS, **LOADS}.get(base, bench)()
 
 
 def answers(call, args):
     """Number and bytes, once or twice."""
     base, no_room, unsound, off = variant(call)
     tree = tree_of(base)
-    if base == "post":
+    if base in POSTS:
         place, word, ready = args
         if unsound:
             return [(1, bytes(24))]
-        live = place < 5 and tree.properties[place][4] & 0x2000
+        live = place < len(tree.properties) and tree.properties[place][4] & 0x2000
         if live:
             tree.cells[place] = [word if ready else tree.cells[place][0], ready]
         return [(0 if live else 14, tree.cell_bytes())]
@@ -769,7 +934,7 @@ def answers(call, args):
     if base in ("write_serial", "write_udp"):
         number, d = written(*args[-4:])
         return [(number, b"" if number else frame(args[0], d) if base == "write_serial" else bytes(4) + d)]
-    if base in ("data", "twice", "limits", "penko"):
+    if base in SERVED:
         return [serve(tree, not off, d) for d in args]
     number, d = string(*args) if base == "serial" else datagram(*args)
     if number:
@@ -841,8 +1006,10 @@ def steps(name, base, args):
         return [(name, "feed", [args[0], bs]) for bs in args[1:]]
     if base == "restore":
         return [(name, "restore", [])] + [(name, "data", [d]) for d in args]
-    if base in ("data", "twice", "limits", "penko"):
+    if base in SERVED:
         return [(name, "data", [d]) for d in args]
+    if base in POSTS:
+        return [(name, "post", args)]
     return [(name, base, args)]
 
 
@@ -858,7 +1025,7 @@ def records(name, call, args):
     tree, lent = b"", b""
     if base in ("feed", "feed_twice"):
         lent = bytes([4 if unsound else 0]) * 261
-    elif base in ("data", "twice", "limits", "penko", "serial", "udp", "post", "restore", "reading", *SHEETS, *BUSES, *LOADS):
+    elif base in ("serial", "udp", "restore", "reading", *SERVED, *POSTS, *SHEETS, *BUSES, *LOADS):
         tree, lent = tree_of(base).form(), bytes(24) if unsound else tree_of(base).cell_bytes()
     elif base in ("bus_receive", "bus_ask"):
         lent = RECORDS[: 60 - unsound]

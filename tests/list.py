@@ -33,7 +33,8 @@ def is_property(p):
     _, kind, least, most, attribute, fmt, _, texts, _, _ = p
     ranges = {1: cases.signed(least, fmt) <= cases.signed(most, fmt), 2: least == 0 and most <= 15}
     live = not attribute & 0x2000 or attribute & 3 == 1
-    return ranges.get(kind, False) and live and all(map(is_plain, texts)) and sum(len(text) + 1 for text in texts) <= 160
+    numbers = ranges.get(kind, False) and cases.is_stepped(p)
+    return numbers and live and all(map(is_plain, texts)) and sum(len(text) + 1 for text in texts) <= 160
 
 
 # docs/FORMATS.md: the sound tree that bytes stand for, None where there is none. A tree has one form alone.
@@ -65,10 +66,16 @@ def text(most):
     return bytes(random.choice([0x3D, 0x20, 0x7E, random.randrange(0x20, 0x7F)]) for _ in range(min(length, most)))
 
 
+# Any format; of type 1 with a step code that means something.
+def draw_format(kind):
+    code = random.randrange(16 if kind == 2 else len(cases.STEPS))
+    return random.randrange(0x10000) & 0xF0FF | code << 8
+
+
 def draw_property(nodes):
     kind = random.choice([1, 2])
     most = random.randrange(16) if kind == 2 else 0
-    attribute, fmt = random.choice([0x2001, 3, 2, 1, 0, 0xD000]), random.randrange(0x10000)
+    attribute, fmt = random.choice([0x2001, 3, 2, 1, 0, 0xD000]), draw_format(kind)
     return random.randrange(nodes), kind, 0, most, attribute, fmt, text(23), [text(9) for _ in range(most + 1)], 0, 0
 
 
@@ -117,6 +124,17 @@ def of_bench():
             yield form[:at] + bytes([byte]) + form[at + 1 :]
 
 
+# The bench tree with each step code in each of its properties: Rate alone, which is of type 2, may have any.
+def of_codes():
+    for place in range(5):
+        for code in range(16):
+            tree = cases.bench()
+            p = tree.properties[place]
+            tree.properties[place] = (*p[:5], p[5] & 0xF0FF | code << 8, *p[6:])
+            assert (read(tree.form()) is None) == (code >= 12 and place != 3)
+            yield tree.form()
+
+
 def too_long(form):
     yield form + b"\0"
     yield form + b"A"
@@ -155,7 +173,7 @@ def main(program, rounds):
     random.seed(1)
     full = largest().form()
     assert len(full) == LONGEST and read(full) is not None
-    forms = [b"", cases.bench().form(), cases.penko().form(), full, *of_bench(), *broken(full), *too_long(full)]
+    forms = [b"", cases.bench().form(), cases.penko().form(), full, *of_bench(), *of_codes(), *broken(full), *too_long(full)]
     for _ in range(rounds):
         form = draw().form()
         assert read(form) is not None

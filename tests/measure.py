@@ -19,6 +19,7 @@ WHAT = {
     "frame-20": "`pq_frame`, 20 bytes",
     "frame-256": "`pq_frame`, 256 bytes, the same each time",
     "frame-varied": "`pq_frame`, 256 bytes, 256 drawn strings by turns, one byte in eight 10h",
+    "op4-step": "`pq_serve_data`, op 4, bench tree with Average in steps of 5",
     "buslink_send-bench": "`pq_buslink_send`, type 2, bench tree",
     "buslink_send-largest": "`pq_buslink_send`, type 9, largest tree",
     "buslink_receive": "`pq_buslink_receive`, the bench tree's type 2",
@@ -69,6 +70,8 @@ TAIL = """
   pairs are most of the call; the second implementation sorts the labels in a list that it allocates. Reading goes over the sheet
   twice, since nothing may be stored before all of it was judged. Writing has room for every sheet here; with less the lines are
   made twice, first to count.
+- A step above 1 costs a write some 24 instructions, one of which divides 32 bits; a part that has none calls a routine there. With step 1
+  nothing is divided. The check of a tree tests the step code of each property of type 1.
 - `pq_buslink_send` looks for its two probes in the list of properties from the front, at most once each; the check is most of the call.
   `pq_buslink_receive` goes by 8 bytes, of which it copies each by itself; the second implementation copies four at a time.
 - The check of the tree is most of a row with a tree, listings and sheets apart (two thirds or more on the bench tree): about 6 instructions

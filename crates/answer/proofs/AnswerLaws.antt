@@ -91,44 +91,44 @@ module _ (cs : List Cell) (p : Property) (place : ℕ) (r : Request) where
 
 module _ (t : Tree) (cs : List Cell) (r : Request) where
   -- ops 2 to 5, once the property is found;
-  pub is-record : (place : ℕ) → r .op ≡ opRecord → onProperty t cs r place ≡ plain cs done (recordReply (propertyIn t place) r)
+  pub is-record : (place : ℕ) → r .op ≡ opRecord → onProperty outcome t cs r place ≡ plain cs done (recordReply (propertyIn t place) r)
   unfolding onProperty
   is-record place h = rw (eq-eqb (r .op) opRecord h)
 
-  pub is-reading : (place : ℕ) → r .op ≡ opRead → onProperty t cs r place ≡ onRead cs (propertyIn t place) place r
+  pub is-reading : (place : ℕ) → r .op ≡ opRead → onProperty outcome t cs r place ≡ onRead cs (propertyIn t place) place r
   unfolding onProperty
   is-reading place h = rw (ne-eqb (r .op) opRecord (λ e. omega (arith, e, h)), eq-eqb (r .op) opRead h)
 
-  pub is-write : (place : ℕ) → opRead < r .op → onProperty t cs r place ≡ onWrite cs place r (outcome (propertyIn t place) (r .value))
+  pub is-write : (place : ℕ) → opRead < r .op → onProperty outcome t cs r place ≡ onWrite cs place r (outcome (propertyIn t place) (r .value))
   unfolding onProperty
   is-write place h =
       rw (ne-eqb (r .op) opRecord (λ e. omega (arith, e, h)), ne-eqb (r .op) opRead (λ e. omega (arith, e, h)))
 
   -- ops 1 to 5, once the node is found;
-  pub is-node : (node : ℕ) → r .op ≡ opNode → ifNode t cs r (some node) ≡ plain cs done (nodeReply t node r)
+  pub is-node : (node : ℕ) → r .op ≡ opNode → ifNode outcome t cs r (some node) ≡ plain cs done (nodeReply t node r)
   unfolding ifNode
   is-node node h = rw (eq-eqb (r .op) opNode h)
 
   pub no-property : (node : ℕ) → (r .op ≡ opNode → ⊥) → propertyOf t node (record { 0 = r .index }) ≡ none
-      → ifNode t cs r (some node) ≡ refuse cs badParameter
+      → ifNode outcome t cs r (some node) ≡ refuse cs badParameter
   unfolding ifNode ifProperty
   no-property node h e = rw (ne-eqb (r .op) opNode h, e)
 
   pub at-property : (node : ℕ) {place : ℕ} → (r .op ≡ opNode → ⊥) → propertyOf t node (record { 0 = r .index }) ≡ some place
-      → ifNode t cs r (some node) ≡ onProperty t cs r place
+      → ifNode outcome t cs r (some node) ≡ onProperty outcome t cs r place
   unfolding ifNode ifProperty
   at-property node h e = rw (ne-eqb (r .op) opNode h, e)
 
   -- a request;
-  pub is-detect : r .op ≡ opDetect → perform t cs r ≡ plain cs done (ACK ∷ [])
+  pub is-detect : r .op ≡ opDetect → perform outcome t cs r ≡ plain cs done (ACK ∷ [])
   unfolding perform
   is-detect h = rw (eq-eqb (r .op) opDetect h)
 
-  pub no-node : (r .op ≡ opDetect → ⊥) → nodeAt t (r .path) ≡ none → perform t cs r ≡ refuse cs badParameter
+  pub no-node : (r .op ≡ opDetect → ⊥) → nodeAt t (r .path) ≡ none → perform outcome t cs r ≡ refuse cs badParameter
   unfolding perform ifNode
   no-node h e = rw (ne-eqb (r .op) opDetect h, e)
 
-  pub at-node : {node : ℕ} → (r .op ≡ opDetect → ⊥) → nodeAt t (r .path) ≡ some node → perform t cs r ≡ ifNode t cs r (some node)
+  pub at-node : {node : ℕ} → (r .op ≡ opDetect → ⊥) → nodeAt t (r .path) ≡ some node → perform outcome t cs r ≡ ifNode outcome t cs r (some node)
   unfolding perform
   at-node h e = rw (ne-eqb (r .op) opDetect h, e)
 
@@ -142,6 +142,6 @@ module _ (t : Tree) (cs : List Cell) {host : Bool} (a : Asked) where
   unfolding answerAsked ifAsked
   not-asked h e = rw (h, ne-eqb (a .number) done e)
 
-  pub is-asked : host ≡ true → a .number ≡ done → answerAsked t cs host a ≡ perform t cs (a .request)
+  pub is-asked : host ≡ true → a .number ≡ done → answerAsked t cs host a ≡ perform outcome t cs (a .request)
   unfolding answerAsked ifAsked
   is-asked h e = rw (h, eq-eqb (a .number) done e)

@@ -16,7 +16,7 @@ use Rattle.protocol.specs.Frame.{Sized, frame, datagram, ifRoom, writeFrame}
 use Rattle.protocol.specs.Buffer.{fitting, Put, Emits}
 use Rattle.protocol.specs.Request.{Asked, readRequest}
 use Rattle.protocol.specs.Tree.{Tree, Cell}
-use Rattle.protocol.specs.Answer.{Answer, answer}
+use Rattle.protocol.specs.Answer.{Answer, answerBy, answer}
 use Rattle.protocol.proofs.BufferLaws.{over-put, over-nil, put-fits, put-room, part-back}
 use Rattle.protocol.proofs.AnswerLaws.{reply-sized}
 use Rattle.datagram.proofs.UdpLaws.{emits-datagram}
@@ -31,7 +31,7 @@ use Rattle.answer.specs.Serve.{Open, rejected, inForm, serve, Call, serv
 
 -- What is read, answered, is its data answered.
 answered-data : (t : Tree) (cs : List Cell) (host : Bool) (bs : List ℕ) → answerAsked t cs host (readRequest bs) ≡ answer t cs host bs
-unfolding answerAsked answer
+unfolding answerAsked answerBy
 answered-data t cs true bs = refl
 answered-data t cs false bs = refl
 

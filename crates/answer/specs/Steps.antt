@@ -8,7 +8,7 @@ use Rattle.protocol.specs.Numbers.{done, disabled, noAction, maxDepth}
 use Rattle.protocol.specs.Buffer.{Put}
 use Rattle.protocol.specs.Request.{Request, requestOf, Asked, allowance}
 use Rattle.protocol.specs.Tree.{Tree, Cell}
-use Rattle.protocol.specs.Answer.{Answer, refuse, refusalCode, ifAsked}
+use Rattle.protocol.specs.Answer.{outcome, Answer, refuse, refusalCode, ifAsked}
 use Rattle.request.specs.declared.Asked as declared
 use Rattle.cells.specs.Cells.{cellsForm}
 use Rattle.answer.specs.Serve.{actionNumber}
@@ -27,7 +27,7 @@ pub record Asks (a : declared.Asked) : Type 0 where
 
 -- What was read, answered: 9 first, then 10 and 11, then 12 or 13.
 unfoldable pub answerAsked : Tree → List Cell → Bool → Asked → Answer
-answerAsked t cs true a = ifAsked t cs a
+answerAsked t cs true a = ifAsked outcome t cs a
 answerAsked t cs false a = refuse cs disabled
 
 -- A refusal of rows 9 to 12, its code at the front of an output.

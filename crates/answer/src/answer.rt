@@ -120,6 +120,7 @@ fn on_write(tree: &[u8], cells: &mut [u8], place: usize, asked: Asked, out: &mut
         },
         Outcome::ReadOnly => not_saved(len),
         Outcome::OutOfRange => not_saved(len),
+        Outcome::OffStep => not_saved(len),
     }
 }
 
@@ -136,7 +137,7 @@ fn not_saved(len: usize) -> Served
 // Ops 2 to 5, once the property is found.
 fn on_property(tree: &[u8], cells: &mut [u8], place: usize, asked: Asked, out: &mut [u8]) -> Served
     requires { ⌜ (256 ≤ length (now out)) × ((isLent (now tree) (now cells) ≡ true) × (Asks asked × ((opNode < asked .op) × (place < length (seen (now tree) .properties))))) ⌝ }
-    ensures { λ r. ⌜ Answers (onProperty (seen (now (tree .entry))) (cellsIn (now (cells .entry))) (requestIn asked) place) (now (out .entry)) (r .number) (r .len) (r .action) (now (cells .exit)) (now (out .exit)) ⌝ }
+    ensures { λ r. ⌜ Answers (onProperty outcome (seen (now (tree .entry))) (cellsIn (now (cells .entry))) (requestIn asked) place) (now (out .entry)) (r .number) (r .len) (r .action) (now (cells .exit)) (now (out .exit)) ⌝ }
 {
     if asked.op == OP_RECORD {
         let at = put_request(asked, out);
@@ -155,7 +156,7 @@ fn on_property(tree: &[u8], cells: &mut [u8], place: usize, asked: Asked, out: &
 // Ops 1 to 5, once the node is found.
 fn on_node(tree: &[u8], cells: &mut [u8], node: usize, asked: Asked, out: &mut [u8]) -> Served
     requires { ⌜ (256 ≤ length (now out)) × ((isLent (now tree) (now cells) ≡ true) × (Asks asked × (opDetect < asked .op))) ⌝ }
-    ensures { λ r. ⌜ Answers (ifNode (seen (now (tree .entry))) (cellsIn (now (cells .entry))) (requestIn asked) (some node)) (now (out .entry)) (r .number) (r .len) (r .action) (now (cells .exit)) (now (out .exit)) ⌝ }
+    ensures { λ r. ⌜ Answers (ifNode outcome (seen (now (tree .entry))) (cellsIn (now (cells .entry))) (requestIn asked) (some node)) (now (out .entry)) (r .number) (r .len) (r .action) (now (cells .exit)) (now (out .exit)) ⌝ }
 {
     if asked.op == OP_NODE {
         let at = put_request(asked, out);
@@ -174,7 +175,7 @@ fn on_node(tree: &[u8], cells: &mut [u8], node: usize, asked: Asked, out: &mut [
 // A request.
 fn perform(tree: &[u8], cells: &mut [u8], asked: Asked, out: &mut [u8]) -> Served
     requires { ⌜ (256 ≤ length (now out)) × ((isLent (now tree) (now cells) ≡ true) × Asks asked) ⌝ }
-    ensures { λ r. ⌜ Answers (perform (seen (now (tree .entry))) (cellsIn (now (cells .entry))) (requestIn asked)) (now (out .entry)) (r .number) (r .len) (r .action) (now (cells .exit)) (now (out .exit)) ⌝ }
+    ensures { λ r. ⌜ Answers (perform outcome (seen (now (tree .entry))) (cellsIn (now (cells .entry))) (requestIn asked)) (now (out .entry)) (r .number) (r .len) (r .action) (now (cells .exit)) (now (out .exit)) ⌝ }
 {
     if asked.op == OP_DETECT {
         return Served {

@@ -9,7 +9,7 @@ use lib.Bits.{bitOr, or-shifted}
 use lib.Dec.{leb}
 use Rattle.protocol.proofs.TestLaws.{and-left, and-right, and-both}
 use Rattle.buslink.specs.Identifier.{isStation, isIndicatorType, identifier, typeIn, isFor}
-use Rattle.buslink.proofs.PackLaws.{packing}
+use Rattle.protocol.proofs.PackLaws.{packing}
 
 -- The bounds of addresses and types.
 pub record Station (base sub : ℕ) : Type 0 where

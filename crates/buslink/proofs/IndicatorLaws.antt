@@ -15,7 +15,7 @@ use Rattle.protocol.proofs.BufferLaws.{put-four}
 use Rattle.buslink.specs.declared.indicator.Indicator.{Indicator}
 use Rattle.buslink.specs.Indicator.{bytesOf, extended, indicatorIn, isUsable}
 use Rattle.buslink.specs.Steps.{usableByte}
-use Rattle.buslink.proofs.PackLaws.{packing}
+use Rattle.protocol.proofs.PackLaws.{packing}
 
 -- 24 bits as a word.
 pub no-sign : (v : ℕ) → v / 2 ^ 23 ≡ 0 → v ≡ extended v

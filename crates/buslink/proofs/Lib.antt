@@ -1,5 +1,4 @@
 -- Laws of Buslink's definitions, and what the proofs of this crate's functions apply to the places of their code.
-pub mod PackLaws
 pub mod IdentifierLaws
 pub mod IndicatorLaws
 pub mod SendLaws

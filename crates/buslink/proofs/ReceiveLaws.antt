@@ -27,7 +27,7 @@ use Rattle.buslink.specs.Receive.{receiptNumber, secondIn, placeOf, usab
 use Rattle.buslink.specs.Steps.{usableByte, usableBit, carriedSize, JudgedIs}
 use Rattle.buslink.proofs.IdentifierLaws.{type-parts, for-station}
 use Rattle.buslink.proofs.IndicatorLaws.{usable-fourth}
-use Rattle.buslink.proofs.PackLaws.{packing}
+use Rattle.protocol.proofs.PackLaws.{packing}
 
 -- The type that a station takes, or 0.
 module _ (base sub i : ℕ) {kind : ℕ} (e : kind ≡ cond (isStation base sub && isFor base sub i) (typeIn i) 0) where

@@ -37,7 +37,7 @@ use Rattle.buslink.specs.Identifier.{isStation, isIndicatorType, identif
 use Rattle.buslink.specs.Indicator.{indicators, available, error, raw, blank, bytesOf}
 use Rattle.buslink.specs.Send.{probesOf, decimals, scaled, fits, valued, shown, probeIndicator, orBlank, indicatorOf, firstOf, dataOf, Sent, unsent, sendIn, Sends}
 use Rattle.buslink.specs.Steps.{sized, times, ProbeAt}
-use Rattle.buslink.proofs.PackLaws.{packing}
+use Rattle.protocol.proofs.PackLaws.{packing}
 
 -- Tests of two kinds that hold together come out the same.
 leb-ltb : (a b c d : ℕ) → (a ≤ b → c < d) → (c < d → a ≤ b) → leb a b ≡ ltb c d

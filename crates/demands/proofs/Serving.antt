@@ -16,7 +16,7 @@ use Rattle.protocol.specs.Frame.{frame, datagram, wrap}
 use Rattle.protocol.specs.Buffer.{over}
 use Rattle.protocol.specs.Request.{Request}
 use Rattle.protocol.specs.Tree.{Tree, Cell, propertyIn, cellIn}
-use Rattle.protocol.specs.Answer.{Answer, plain, stored, Outcome, saved, taken, readOnly, outOfRange, outcome, saveByte, reason, writeNumber, actionOf, cellsAfter, echoIndexed, writeReply, refusalCode, onWrite, answer}
+use Rattle.protocol.specs.Answer.{Answer, plain, stored, Outcome, saved, taken, readOnly, outOfRange, offStep, outcome, saveByte, reason, writeNumber, actionOf, cellsAfter, echoIndexed, writeReply, refusalCode, onWrite, answer}
 use Rattle.protocol.proofs.BufferLaws.{over-nil, over-front}
 use Rattle.protocol.proofs.FrameLaws.{frame-injective, datagram-injective}
 use Rattle.protocol.proofs.AnswerLaws as laws
@@ -45,6 +45,7 @@ unsaved saved h = absurd (omega arith)
 unsaved taken h = absurd (omega arith)
 unsaved readOnly h = (refl, refl)
 unsaved outOfRange h = (refl, refl)
+unsaved offStep h = (refl, refl)
 
 late : (t : Tree) (cs : List Cell) (bs : List ℕ) {a : Answer} → Answered t cs bs a → 0 < a .number → disabled ≤ a .number
 unfolding onWrite
@@ -71,6 +72,7 @@ accepted-reply form saved r e is = inl is
 accepted-reply form taken r e is = inr is
 accepted-reply form readOnly r e is = absurd (omega arith)
 accepted-reply form outOfRange r e is = absurd (omega arith)
+accepted-reply form offStep r e is = absurd (omega arith)
 
 save-saved : (o : Outcome) → saveByte o ≡ saveDone → o ≡ saved
 unfolding saveByte
@@ -78,6 +80,7 @@ save-saved saved e = refl
 save-saved taken e = absurd (omega arith)
 save-saved readOnly e = absurd (omega arith)
 save-saved outOfRange e = absurd (omega arith)
+save-saved offStep e = absurd (omega arith)
 
 save-taken : (o : Outcome) → saveByte o ≡ saveNone → o ≡ taken
 unfolding saveByte
@@ -85,6 +88,7 @@ save-taken saved e = absurd (omega arith)
 save-taken taken e = refl
 save-taken readOnly e = absurd (omega arith)
 save-taken outOfRange e = absurd (omega arith)
+save-taken offStep e = absurd (omega arith)
 
 asked-58 : (k : Call) → AsksOpenProbe k
     → answer (treeIn k) (cellsIn (k .cells)) true (k .string .payload) ≡ plain (cellsIn (k .cells)) noReading (NAK ∷ [])

@@ -8,4 +8,5 @@ pub mod Demand3
 pub mod Listing
 pub mod StrayDle
 pub mod Sheets
+pub mod StepSize
 pub mod Buslink

@@ -15,7 +15,7 @@ use Rattle.protocol.specs.Bytes.{every, half, word, text, texts}
 use Rattle.protocol.specs.Frame.{Sized}
 use Rattle.protocol.specs.Request.{Request, Asked, asksIndex, asksValue, fits, askedIf, declined, beforeZero, readIndexed, readValued, readShape, readRequest}
 use Rattle.protocol.specs.Tree.{Node, Property, Tree, Cell, isLive, isText, isName, kindSound, liveSound, widthsSound, placesFrom, numbered, propertiesOf, propertyOf, nodeAt, nodeIn, propertyIn, cellIn, cellsSound, depthsSound, parentsSound, optionsSound, propertySound, nodesSound, propertiesSound, sound, readable}
-use Rattle.protocol.specs.Answer.{Finds, ReadAs, Writes, Saves, Outcome, saved, taken, readOnly, outOfRange, outcome, reason, writeNumber, stored, cellsAfter, echo, echoIndexed, nodeReply, recordReply, readReply, writeReply, Answer, plain, refuse, refusalCode, onRead, onWrite, onProperty, ifProperty, ifNode, perform, ifAsked, answer}
+use Rattle.protocol.specs.Answer.{Finds, ReadAs, Writes, Saves, Outcome, saved, taken, readOnly, outOfRange, offStep, outcome, reason, writeNumber, stored, cellsAfter, echo, echoIndexed, nodeReply, recordReply, readReply, writeReply, Answer, plain, refuse, refusalCode, onRead, onWrite, onProperty, ifProperty, ifNode, perform, ifAsked, answerBy, answer}
 use Rattle.protocol.proofs.TestLaws.{and-left, and-right, and-both, if-both, if-case, every-at, every-set, every-weaker}
 use Rattle.protocol.proofs.RequestLaws.{path-most, value-fits}
 use Rattle.protocol.proofs.RuleLaws.{not-readable}
@@ -125,6 +125,7 @@ reason-short saved = omega arith
 reason-short taken = omega arith
 reason-short readOnly = omega arith
 reason-short outOfRange = omega arith
+reason-short offStep = omega arith
 
 ending-short : (t : Bool) (o : Outcome) → length (cond t [] (text (reason o))) ≤ 10
 ending-short true o = omega arith
@@ -212,7 +213,7 @@ pub data Answered (t : Tree) (cs : List Cell) (bs : List ℕ) : Answer → Type 
 
 module _ (t : Tree) (cs : List Cell) (bs : List ℕ) where
   module _ (r : Request) (asks : ReadAs bs r) where
-    property-answered : (place : ℕ) → opNode < r .op → Finds t r place → Answered t cs bs (onProperty t cs r place)
+    property-answered : (place : ℕ) → opNode < r .op → Finds t r place → Answered t cs bs (onProperty outcome t cs r place)
     unfolding onProperty onRead
     property-answered place h f =
         if-case (Answered t cs bs) (eqb (r .op) opRecord) (λ e. record-described r place asks)
@@ -226,12 +227,12 @@ module _ (t : Tree) (cs : List Cell) (bs : List ℕ) where
         written r place (record { asks = asks; writes = above; finds = f })))
 
     ifProperty-answered : (node : ℕ) → nodeAt t (r .path) ≡ some node → opNode < r .op → (o : Option ℕ)
-        → propertyOf t node (record { 0 = r .index }) ≡ o → Answered t cs bs (ifProperty t cs r o)
+        → propertyOf t node (record { 0 = r .index }) ≡ o → Answered t cs bs (ifProperty outcome t cs r o)
     unfolding ifProperty
     ifProperty-answered node n h none e = refused badParameter (omega arith) (omega arith)
     ifProperty-answered node n h (some place) e = property-answered place h (record { node = node; atNode = n; atProperty = e })
 
-    ifNode-answered : opDetect < r .op → (o : Option ℕ) → nodeAt t (r .path) ≡ o → Answered t cs bs (ifNode t cs r o)
+    ifNode-answered : opDetect < r .op → (o : Option ℕ) → nodeAt t (r .path) ≡ o → Answered t cs bs (ifNode outcome t cs r o)
     unfolding ifNode
     ifNode-answered h none e = refused badParameter (omega arith) (omega arith)
     ifNode-answered h (some node) e =
@@ -240,7 +241,7 @@ module _ (t : Tree) (cs : List Cell) (bs : List ℕ) where
         let above : opNode < r .op = omega (arith, eqb-false (r .op) opNode q) in
         ifProperty-answered node e above (propertyOf t node (record { 0 = r .index })) refl)
 
-    perform-answered : Answered t cs bs (perform t cs r)
+    perform-answered : Answered t cs bs (perform outcome t cs r)
     unfolding perform
     perform-answered =
         if-case (Answered t cs bs) (eqb (r .op) opDetect) (λ e. acknowledged)
@@ -248,7 +249,7 @@ module _ (t : Tree) (cs : List Cell) (bs : List ℕ) where
 
   -- Every answer is one of these.
   pub answered : (host : Bool) → Answered t cs bs (answer t cs host bs)
-  unfolding answer ifAsked
+  unfolding answerBy ifAsked
   answered false = refused disabled (omega arith) (omega arith)
   answered true =
       if-case (Answered t cs bs) (eqb (readRequest bs .number) done)
@@ -298,16 +299,16 @@ never-busy t cs host bs = go (answered t cs bs host)
 
 -- A request performed, where it names a property.
 finds-performs : (t : Tree) (cs : List Cell) (r : Request) (place : ℕ) → Finds t r place → opNode < r .op
-    → perform t cs r ≡ onProperty t cs r place
+    → perform outcome t cs r ≡ onProperty outcome t cs r place
 unfolding perform ifNode ifProperty
 finds-performs t cs r place f h =
     let detect : eqb (r .op) opDetect ≡ false = ne-eqb (r .op) opDetect (λ e. omega (arith, e, h)) in
     let tree : eqb (r .op) opNode ≡ false = ne-eqb (r .op) opNode (λ e. omega (arith, e, h)) in
     rw (detect, f .atNode, tree, f .atProperty)
 
-answer-asked : (t : Tree) (cs : List Cell) (bs : List ℕ) (r : Request) → ReadAs bs r → answer t cs true bs ≡ perform t cs r
-unfolding answer ifAsked
-answer-asked t cs bs r h = ap (ifAsked t cs) h
+answer-asked : (t : Tree) (cs : List Cell) (bs : List ℕ) (r : Request) → ReadAs bs r → answer t cs true bs ≡ perform outcome t cs r
+unfolding answerBy ifAsked
+answer-asked t cs bs r h = ap (ifAsked outcome t cs) h
 
 -- A live probe that is not ready is answered 58, whatever its word.
 pub open-probe : (t : Tree) (cs : List Cell) (bs : List ℕ) (r : Request) (place : ℕ) → ReadAs bs r → r .op ≡ opRead → Finds t r place
@@ -347,6 +348,7 @@ changes t cs host bs = go (answered t cs bs host)
     write r place w taken e = none-changed refl
     write r place w readOnly e = none-changed refl
     write r place w outOfRange e = none-changed refl
+    write r place w offStep e = none-changed refl
 
     go : {a : Answer} → Answered t cs bs a → Changes t cs bs (a .cells)
     go (refused n h k) = none-changed refl
@@ -422,6 +424,7 @@ refusal-keeps t cs host bs = go (answered t cs bs host)
     write r place taken h = refl
     write r place readOnly h = refl
     write r place outOfRange h = refl
+    write r place offStep h = refl
 
     go : {a : Answer} → Answered t cs bs a → (a .number ≡ done → ⊥) → a .cells ≡ cs
     go (refused n p q) h = refl
@@ -430,3 +433,34 @@ refusal-keeps t cs host bs = go (answered t cs bs host)
     go (record-described r place asks) h = refl
     go (word-read r place asks) h = refl
     go (written r place w) h = write r place (outcome (propertyIn t place) (r .value)) h
+
+-- Two rules for writes that agree on every property of a tree answer alike.
+module _ (f g : Property → ℕ → Outcome) (t : Tree) (same : (place v : ℕ) → f (propertyIn t place) v ≡ g (propertyIn t place) v) (cs : List Cell) where
+  same-property : (r : Request) (place : ℕ) → onProperty f t cs r place ≡ onProperty g t cs r place
+  unfolding onProperty
+  same-property r place =
+      ap (λ o. cond (eqb (r .op) opRecord) (plain cs done (recordReply (propertyIn t place) r))
+      (cond (eqb (r .op) opRead) (onRead cs (propertyIn t place) place r) (onWrite cs place r o)))
+      (same place (r .value))
+
+  same-if-property : (r : Request) (o : Option ℕ) → ifProperty f t cs r o ≡ ifProperty g t cs r o
+  unfolding ifProperty
+  same-if-property r none = refl
+  same-if-property r (some place) = same-property r place
+
+  same-if-node : (r : Request) (o : Option ℕ) → ifNode f t cs r o ≡ ifNode g t cs r o
+  unfolding ifNode
+  same-if-node r none = refl
+  same-if-node r (some place) =
+      ap (λ a. cond (eqb (r .op) opNode) (plain cs done (nodeReply t place r)) a)
+      (same-if-property r (propertyOf t place (record { 0 = r .index })))
+
+  same-perform : (r : Request) → perform f t cs r ≡ perform g t cs r
+  unfolding perform
+  same-perform r = ap (λ a. cond (eqb (r .op) opDetect) (plain cs done (ACK ∷ [])) a) (same-if-node r (nodeAt t (r .path)))
+
+  pub same-answers : (host : Bool) (bs : List ℕ) → answerBy f t cs host bs ≡ answerBy g t cs host bs
+  unfolding answerBy ifAsked
+  same-answers true bs =
+      ap (λ a. cond (eqb (readRequest bs .number) done) a (refuse cs (readRequest bs .number))) (same-perform (readRequest bs .request))
+  same-answers false bs = refl

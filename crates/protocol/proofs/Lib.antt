@@ -1,6 +1,7 @@
 -- What is proved of the definitions of specs/.
 pub mod TestLaws
 pub mod ListLaws
+pub mod PackLaws
 pub mod PlaceLaws
 pub mod BufferLaws
 pub mod LayLaws
@@ -11,6 +12,7 @@ pub mod FrameLaws
 pub mod StreamLaws
 pub mod RequestLaws
 pub mod RuleLaws
+pub mod StepLaws
 pub mod OutcomeLaws
 pub mod AnswerLaws
 pub mod OnceLaws

@@ -18,7 +18,7 @@ use Rattle.protocol.specs.Numbers.{done, disabled, notLive, DISABLED, st
 use Rattle.protocol.specs.Bytes.{sum, ordered, atMost, every, text, texts}
 use Rattle.protocol.specs.Frame.{checksum}
 use Rattle.protocol.specs.Tree.{Property, Tree, Cell, canRead, isSigned, isLive, placesFrom, childrenOf, propertyIn, cellIn, readable, reading, unready, restoredCell, restored, posted, post, sound, nodesSound, propertiesSound, propertySound, parentsSound, parentsFrom, depthsSound, depthsAfter, liveSound, kindSound, standardSound, enumerationSound, isName, optionsSound, cellsSound}
-use Rattle.protocol.specs.Answer.{inRange, plain, refusalCode, answer}
+use Rattle.protocol.specs.Answer.{inRange, plain, refusalCode, answerBy, answer}
 use Rattle.protocol.specs.Bench.{benchTree, benchCells}
 use Rattle.protocol.proofs.TestLaws.{leb-same}
 
@@ -197,5 +197,5 @@ bench-cells-sound = refl
 
 -- With host functions off any data gets 57, and no cell changes.
 pub host-off : (t : Tree) (cs : List Cell) (bs : List ℕ) → answer t cs false bs ≡ plain cs disabled (DISABLED ∷ [])
-unfolding answer refusalCode
+unfolding answerBy refusalCode
 host-off t cs bs = refl

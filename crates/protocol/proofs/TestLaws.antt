@@ -1,12 +1,13 @@
 -- Tests: their conjunction, an answer that a test picks, and a test on every entry of a list.
 -- Assumes nothing.
-use Prim.Native.Nat.{ℕ, zero, suc, _≤_}
+use Prim.Native.Nat.{ℕ, zero, suc, _+_, _<_, _≤_}
 use native.Mathlib.Omega.{arith}
-use mathlib.Core.Path.{_≡_, refl, sym, _∙_}
+use native.Mathlib.Nat.{add-zero, zero-add, add-suc, suc-add, le-of-suc-le-suc, not-suc-le-zero}
+use mathlib.Core.Path.{_≡_, refl, sym, ap, ap₂, _∙_}
 use mathlib.Core.Bool.{Bool, true, false, cond, _&&_, and-eq-true-iff}
 use mathlib.Core.List.{List, [], _∷_, _++_, map}
 use borrow.Author.Tests.{eqb-true, eqb-false, leb-true, leb-false}
-use lib.ListN.{getD, set}
+use lib.ListN.{length, getD, set}
 use lib.Dec.{eqb, leb}
 use Rattle.protocol.specs.Bytes.{every}
 
@@ -78,7 +79,31 @@ module _ {A : Type 0} (f : A → Bool) where
   every-weaker g w (x ∷ xs) h =
       and-both (w x (and-left (f x) (every f xs) h)) (every-weaker g w xs (and-right (f x) (every f xs) h))
 
+  -- Two tests that agree where this one passes.
+  pub every-same : (g h : A → Bool) → ((x : A) → f x ≡ true → g x ≡ h x) → (xs : List A) → every f xs ≡ true → every g xs ≡ every h xs
+  unfolding every
+  every-same g h w [] e = refl
+  every-same g h w (x ∷ xs) e =
+      ap₂ (λ a b. a && b) (w x (and-left (f x) (every f xs) e)) (every-same g h w xs (and-right (f x) (every f xs) e))
+
   pub every-map : {B : Type 0} (g : B → A) → ((x : B) → f (g x) ≡ true) → (xs : List B) → every f (map g xs) ≡ true
   unfolding every
   every-map g h [] = refl
   every-map g h (x ∷ xs) = and-both (h x) (every-map g h xs)
+
+-- A table's rule: a test of each place and entry, computed once for the whole table, passes at every place.
+module _ (f : ℕ → ℕ → Bool) where
+  unfoldable pub everyPlace : ℕ → List ℕ → Bool
+  everyPlace k [] = true
+  everyPlace k (x ∷ xs) = f k x && everyPlace (suc k) xs
+
+  place-from : (xs : List ℕ) (d k i : ℕ) → everyPlace k xs ≡ true → i < length xs → f (k + i) (getD xs i d) ≡ true
+  unfolding everyPlace
+  place-from [] d k i h l = absurd (not-suc-le-zero l)
+  place-from (x ∷ xs) d k zero h l = ap (λ n. f n x) (add-zero k) ∙ and-left (f k x) (everyPlace (suc k) xs) h
+  place-from (x ∷ xs) d k (suc i) h l =
+      ap (λ n. f n (getD xs i d)) (add-suc k i ∙ sym (suc-add k i))
+      ∙ place-from xs d (suc k) i (and-right (f k x) (everyPlace (suc k) xs) h) (le-of-suc-le-suc l)
+
+  pub place-at : (xs : List ℕ) (d : ℕ) → everyPlace 0 xs ≡ true → (i : ℕ) → i < length xs → f i (getD xs i d) ≡ true
+  place-at xs d h i l = ap (λ n. f n (getD xs i d)) (sym (zero-add i)) ∙ place-from xs d 0 i h l

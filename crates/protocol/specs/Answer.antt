@@ -9,6 +9,7 @@ use lib.Dec.{eqb, leb}
 use Rattle.protocol.specs.Numbers.{done, disabled, unknownCommand, badParameter, noReading, notSaved, PDI, ERROR, ACK, DISABLED, NAK, ILLEGAL, opDetect, opNode, opRecord, opRead, opWrite, standard, statusOk, saveFailed, saveDone, saveNone}
 use Rattle.protocol.specs.Bytes.{half, word, text, texts, atMost}
 use Rattle.protocol.specs.Request.{Request, Asked, readRequest}
+use Rattle.protocol.specs.Step.{onStep}
 use Rattle.protocol.specs.Tree.{Property, Tree, Cell, canRead, canWrite, isSigned, childrenOf, propertiesOf, propertyOf, nodeAt, nodeIn, propertyIn, cellIn, readable}
 
 -- The range rule. Type 1: any value where min and max are both 0, else from min to max, both included, in the order that
@@ -28,12 +29,12 @@ takesSign p = eqb (p .kind) standard && isSigned p
 
 -- What a write does: the value is saved, the action is taken, or neither, and why.
 pub data Outcome : Type 0 where
-  saved taken readOnly outOfRange : Outcome
+  saved taken readOnly outOfRange offStep : Outcome
 
--- The tests of a write in their order: no write attribute, then the range; an action has no range.
+-- The tests of a write in their order: no write attribute, then the range, then (02, section 6) the step; an action has neither.
 unfoldable pub outcome : Property → ℕ → Outcome
 outcome p v =
-    cond (canWrite p) (cond (canRead p) (cond (inRange p v) saved outOfRange) taken) readOnly
+    cond (canWrite p) (cond (canRead p) (cond (inRange p v) (cond (onStep p v) saved offStep) outOfRange) taken) readOnly
 
 -- The save byte.
 unfoldable pub saveByte : Outcome → ℕ
@@ -41,19 +42,22 @@ saveByte saved = saveDone
 saveByte taken = saveNone
 saveByte readOnly = saveFailed
 saveByte outOfRange = saveFailed
+saveByte offStep = saveFailed
 
--- The text of op 5: empty, "Read only" or "Range".
+-- The text of op 5: empty, "Read only", "Range" or (02, section 6) "Step".
 unfoldable pub reason : Outcome → List ℕ
 reason saved = []
 reason taken = []
 reason readOnly = 0x52 ∷ 0x65 ∷ 0x61 ∷ 0x64 ∷ 0x20 ∷ 0x6F ∷ 0x6E ∷ 0x6C ∷ 0x79 ∷ []
 reason outOfRange = 0x52 ∷ 0x61 ∷ 0x6E ∷ 0x67 ∷ 0x65 ∷ []
+reason offStep = 0x53 ∷ 0x74 ∷ 0x65 ∷ 0x70 ∷ []
 
 unfoldable pub writeNumber : Outcome → ℕ
 writeNumber saved = done
 writeNumber taken = done
 writeNumber readOnly = notSaved
 writeNumber outOfRange = notSaved
+writeNumber offStep = notSaved
 
 -- What stands in a setting's cell once a value is saved in it.
 abbrev pub stored : Cell → ℕ → Cell
@@ -64,6 +68,7 @@ cellsAfter saved cs place v = set cs place (stored (cellIn cs place) v)
 cellsAfter taken cs place v = cs
 cellsAfter readOnly cs place v = cs
 cellsAfter outOfRange cs place v = cs
+cellsAfter offStep cs place v = cs
 
 -- The caller is told the place of the property whose action it is to take.
 unfoldable pub actionOf : Outcome → ℕ → Option ℕ
@@ -71,6 +76,7 @@ actionOf saved place = none
 actionOf taken place = some place
 actionOf readOnly place = none
 actionOf outOfRange place = none
+actionOf offStep place = none
 
 -- The table's last column: B4, the op and the path in front, the index behind them where there is one; then what the request
 -- asked for (its body).
@@ -144,38 +150,44 @@ onWrite cs place r o =
       action = actionOf o place;
     }
 
--- Ops 2 to 5 once the property is found.
-unfoldable pub onProperty : Tree → List Cell → Request → ℕ → Answer
-onProperty t cs r place =
-    cond (eqb (r .op) opRecord)
-    (plain cs done (recordReply (propertyIn t place) r))
-    (cond (eqb (r .op) opRead)
-    (onRead cs (propertyIn t place) place r)
-    (onWrite cs place r (outcome (propertyIn t place) (r .value))))
+-- What the box answers where a rule says what a write of a value to a property does.
+module _ (rule : Property → ℕ → Outcome) where
+  -- Ops 2 to 5 once the property is found.
+  unfoldable pub onProperty : Tree → List Cell → Request → ℕ → Answer
+  onProperty t cs r place =
+      cond (eqb (r .op) opRecord)
+      (plain cs done (recordReply (propertyIn t place) r))
+      (cond (eqb (r .op) opRead)
+      (onRead cs (propertyIn t place) place r)
+      (onWrite cs place r (rule (propertyIn t place) (r .value))))
 
--- A path with no node, or a node with no such property, is 11.
-unfoldable pub ifProperty : Tree → List Cell → Request → Option ℕ → Answer
-ifProperty t cs r none = refuse cs badParameter
-ifProperty t cs r (some place) = onProperty t cs r place
+  -- A path with no node, or a node with no such property, is 11.
+  unfoldable pub ifProperty : Tree → List Cell → Request → Option ℕ → Answer
+  ifProperty t cs r none = refuse cs badParameter
+  ifProperty t cs r (some place) = onProperty t cs r place
 
-unfoldable pub ifNode : Tree → List Cell → Request → Option ℕ → Answer
-ifNode t cs r none = refuse cs badParameter
-ifNode t cs r (some place) =
-    cond (eqb (r .op) opNode)
-    (plain cs done (nodeReply t place r))
-    (ifProperty t cs r (propertyOf t place (record { 0 = r .index })))
+  unfoldable pub ifNode : Tree → List Cell → Request → Option ℕ → Answer
+  ifNode t cs r none = refuse cs badParameter
+  ifNode t cs r (some place) =
+      cond (eqb (r .op) opNode)
+      (plain cs done (nodeReply t place r))
+      (ifProperty t cs r (propertyOf t place (record { 0 = r .index })))
 
--- A request answered.
-unfoldable pub perform : Tree → List Cell → Request → Answer
-perform t cs r = cond (eqb (r .op) opDetect) (plain cs done (ACK ∷ [])) (ifNode t cs r (nodeAt t (r .path)))
+  -- A request answered.
+  unfoldable pub perform : Tree → List Cell → Request → Answer
+  perform t cs r = cond (eqb (r .op) opDetect) (plain cs done (ACK ∷ [])) (ifNode t cs r (nodeAt t (r .path)))
 
-unfoldable pub ifAsked : Tree → List Cell → Asked → Answer
-ifAsked t cs a = cond (eqb (a .number) done) (perform t cs (a .request)) (refuse cs (a .number))
+  unfoldable pub ifAsked : Tree → List Cell → Asked → Answer
+  ifAsked t cs a = cond (eqb (a .number) done) (perform t cs (a .request)) (refuse cs (a .number))
 
--- Data answered, host functions on (true) or off: 9, then 10 and 11, then 12 or 13.
-unfoldable pub answer : Tree → List Cell → Bool → List ℕ → Answer
-answer t cs true bs = ifAsked t cs (readRequest bs)
-answer t cs false bs = refuse cs disabled
+  -- Data answered, host functions on (true) or off: 9, then 10 and 11, then 12 or 13.
+  unfoldable pub answerBy : Tree → List Cell → Bool → List ℕ → Answer
+  answerBy t cs true bs = ifAsked t cs (readRequest bs)
+  answerBy t cs false bs = refuse cs disabled
+
+-- The rule of the box.
+abbrev pub answer : Tree → List Cell → Bool → List ℕ → Answer
+answer t cs host bs = answerBy outcome t cs host bs
 
 -- A request that names a property: its path has a node, and the node has a property with its index, at a place.
 pub record Finds (t : Tree) (r : Request) (place : ℕ) : Type 0 where

@@ -11,8 +11,9 @@ pub mod Tree
 pub mod Text
 pub mod Listing
 pub mod Listed
-pub mod Answer
 pub mod Signed
+pub mod Step
+pub mod Answer
 pub mod Sheet
 pub mod Bench
 pub mod Marked

@@ -57,7 +57,7 @@ notLive = 14
 abbrev pub badSheet : ℕ
 badSheet = 17
 
--- 02, section 3: a number read, or a stored word written, that is out of range or of 32 bits
+-- 02, section 3: a number read, or a stored word written, that is out of range or of 32 bits; section 6: or off its step
 abbrev pub notInRange : ℕ
 notInRange = 18
 
@@ -148,6 +148,17 @@ bitLive = 13
 
 abbrev pub bitSigned : ℕ
 bitSigned = 15
+
+-- 02, section 6: format bits 11 to 8 hold the step code: the lowest of them, and how many there are.
+abbrev pub bitStep : ℕ
+bitStep = 8
+
+abbrev pub stepBits : ℕ
+stepBits = 4
+
+-- the last code that means a step
+abbrev pub lastStepCode : ℕ
+lastStepCode = 11
 
 -- 003, 5.4: the status of a read that succeeded.
 abbrev pub statusOk : ℕ

@@ -8,6 +8,7 @@ use lib.Dec.{eqb}
 use Rattle.protocol.specs.Numbers.{done, badSheet, notInRange}
 use Rattle.protocol.specs.Bytes.{every}
 use Rattle.protocol.specs.Tree.{Property, Tree, Cell, canRead, canWrite, placesFrom, propertyIn, cellIn}
+use Rattle.protocol.specs.Step.{onStep}
 use Rattle.protocol.specs.Answer.{inRange, takesSign, stored}
 use Rattle.protocol.specs.Text.{each, line, begins, sameText}
 use Rattle.protocol.specs.Signed.{Number, numberOf, numeral, isTold, isWord, wordFor, isNumber, numberIn, numberSize}
@@ -16,9 +17,9 @@ use Rattle.protocol.specs.Signed.{Number, numberOf, numeral, isTold, isW
 abbrev pub isSetting : Property → Bool
 isSetting p = canRead p && canWrite p
 
--- Whether a setting may hold a word: document 01's range rule.
-abbrev pub mayHold : Property → ℕ → Bool
-mayHold p v = inRange p v
+-- Whether a setting may hold a word: document 01's range rule, and (02, section 6) its step. What follows says "in range" of both.
+unfoldable pub mayHold : Property → ℕ → Bool
+mayHold p v = inRange p v && onStep p v
 
 -- The settings of a tree, by their places, in property list order.
 unfoldable pub settingsOf : Tree → List ℕ

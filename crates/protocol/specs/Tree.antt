@@ -1,5 +1,5 @@
 -- 01, The tree: nodes, properties, the rules they keep, and the cells beside them.
-use Prim.Native.Nat.{ℕ, zero, suc, _+_}
+use Prim.Native.Nat.{ℕ, zero, suc, _+_, _/_, _%_, _^_}
 use mathlib.Core.Bool.{Bool, true, false, cond, not, _&&_}
 use mathlib.Core.List.{List, [], _∷_, _++_}
 use mathlib.Core.Option.{Option, none, some}
@@ -7,7 +7,7 @@ use lib.ListN.{length, getD, getElem?, drop, set}
 use lib.Dec.{eqb, ltb, leb}
 use Rattle.protocol.specs.declared.NodeNumber.{NodeNumber}
 use Rattle.protocol.specs.declared.PropertyIndex.{PropertyIndex}
-use Rattle.protocol.specs.Numbers.{done, notLive, standard, enumeration, bitRead, bitWrite, bitLive, bitSigned, maxDepth, maxNodes, maxProperties, maxName, maxTexts, maxOption, firstCharacter, lastCharacter, halfEnd, wordEnd}
+use Rattle.protocol.specs.Numbers.{done, notLive, standard, enumeration, bitRead, bitWrite, bitLive, bitSigned, bitStep, stepBits, lastStepCode, maxDepth, maxNodes, maxProperties, maxName, maxTexts, maxOption, firstCharacter, lastCharacter, halfEnd, wordEnd}
 use Rattle.protocol.specs.Bytes.{every, texts, bit, atMost}
 
 -- A node names its parent by the parent's place in the list. The device, which has none, names itself, place 0.
@@ -44,6 +44,10 @@ isLive p = bit bitLive (p .attribute)
 -- Format bit 15.
 abbrev pub isSigned : Property → Bool
 isSigned p = bit bitSigned (p .format)
+
+-- 02, section 6: the step code, format bits 11 to 8.
+abbrev pub stepCode : Property → ℕ
+stepCode p = p .format / 2 ^ bitStep % 2 ^ stepBits
 
 -- An action: write and no read.
 abbrev pub isAction : Property → Bool
@@ -139,9 +143,13 @@ depthsSound ns = every (λ d. leb d maxDepth) (depthsAfter [] ns)
 unfoldable pub liveSound : Property → Bool
 liveSound p = cond (isLive p) (canRead p && not (canWrite p)) true
 
--- Type 1: one text, and min at most max in the order that format bit 15 gives.
+-- Type 1, its numbers: min at most max in the order that format bit 15 gives, and (02, section 6) a code that means a step.
+abbrev pub standardFits : Property → Bool
+standardFits p = atMost (isSigned p) (p .min) (p .max) && leb (stepCode p) lastStepCode
+
+-- Type 1: one text, and numbers that fit.
 unfoldable pub standardSound : Property → Bool
-standardSound p = eqb (length (p .options)) 1 && atMost (isSigned p) (p .min) (p .max)
+standardSound p = eqb (length (p .options)) 1 && standardFits p
 
 -- Type 2: min 0, max at most 15, one option for each value.
 unfoldable pub enumerationSound : Property → Bool

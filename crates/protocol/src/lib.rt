@@ -91,6 +91,13 @@ pub const BIT_LIVE: u32 = 13;
 
 pub const BIT_SIGNED: u32 = 15;
 
+// The step code: the lowest of its format bits, what masks it there, and the last code that means a step (document 02, section 6).
+pub const BIT_STEP: u32 = 8;
+
+pub const STEP_MASK: u16 = 0x0F;
+
+pub const LAST_STEP_CODE: u16 = 11;
+
 // The status of a read that succeeded (document 003, 5.4), and the save byte (5.5).
 pub const STATUS_OK: u8 = 0x01;
 

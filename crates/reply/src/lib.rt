@@ -85,6 +85,7 @@ fn put_reason(o: Outcome, out: &mut [u8], at: usize) -> usize
         Outcome::Taken => buffer::put_all(b"\0", out, at),
         Outcome::ReadOnly => buffer::put_all(b"Read only\0", out, at),
         Outcome::OutOfRange => buffer::put_all(b"Range\0", out, at),
+        Outcome::OffStep => buffer::put_all(b"Step\0", out, at),
     }
 }
 

@@ -5,6 +5,7 @@ use protocol::SAVE_NONE;
 use tree::range;
 use tree::record;
 use tree::record::Fields;
+use tree::step;
 ghost use mathlib.Core.Path.{_≡_};
 ghost use Rattle.protocol.specs.Tree.{propertyIn};
 ghost use Rattle.protocol.specs.Answer.{outcome, saveByte};
@@ -12,15 +13,17 @@ ghost use Rattle.tree.specs.Seen.{seen};
 ghost use Rattle.tree.specs.Lookup.{numbersOf};
 ghost use Rattle.reply.specs.Outcome.{meaning};
 
-// The value is saved, the action is taken, or neither: the property has no write attribute, or the value is out of range.
+// The value is saved, the action is taken, or neither: the property has no write attribute, the value is out of range, or it is not
+// on its step.
 pub enum Outcome {
     Saved,
     Taken,
     ReadOnly,
     OutOfRange,
+    OffStep,
 }
 
-// The tests of a write in their order: no write attribute, then the range; an action has none.
+// The tests of a write in their order: no write attribute, then the range, then the step; an action has neither.
 fn outcome_by(f: Fields, value: u32) -> Outcome
     ensures { λ r. ⌜ meaning r ≡ outcome (numbersOf f) value ⌝ }
 {
@@ -30,10 +33,13 @@ fn outcome_by(f: Fields, value: u32) -> Outcome
     if !f.can_read() {
         return Outcome::Taken;
     }
-    if range::in_range(f, value) {
-        return Outcome::Saved;
+    if !range::in_range(f, value) {
+        return Outcome::OutOfRange;
     }
-    Outcome::OutOfRange
+    if !step::on_step(f, value) {
+        return Outcome::OffStep;
+    }
+    Outcome::Saved
 }
 
 // What writing a value to the property at a place does.
@@ -51,5 +57,6 @@ pub(crate) fn save_byte(o: Outcome) -> u8
         Outcome::Taken => SAVE_NONE,
         Outcome::ReadOnly => SAVE_FAILED,
         Outcome::OutOfRange => SAVE_FAILED,
+        Outcome::OffStep => SAVE_FAILED,
     }
 }

@@ -12,13 +12,14 @@ use lib.Dec.{eqb}
 use Rattle.protocol.specs.Numbers.{done, badSheet, notInRange}
 use Rattle.protocol.specs.Tree.{Tree, Cell, propertyIn, cellIn}
 use Rattle.protocol.specs.Answer.{stored}
-use Rattle.protocol.specs.Sheet.{isSetting, settingsOf, isLine, lineSize, lineWord, lineInRange, isSheet, allInRange, sheetNumber, loaded}
+use Rattle.protocol.specs.Sheet.{isSetting, mayHold, settingsOf, isLine, lineSize, lineWord, lineInRange, isSheet, allInRange, sheetNumber, loaded}
 use Rattle.protocol.proofs.LoadLaws.{line-inside}
 use Rattle.cells.specs.Cells.{cellSize, cellsForm, cellsIn, hasCells, withWord}
 use Rattle.cells.proofs.CellLaws.{form-of, cells-size, word-stored}
 use Rattle.sheet.specs.Steps.{settingsFrom, NextSetting, LineIs}
 use Rattle.sheet.specs.declared.read.Line.{Line}
 use Rattle.sheet.proofs.SettingLaws.{settings-all, settings-here, settings-end}
+use Rattle.sheet.proofs.ReadLaws.{line-range, line-stores}
 
 -- The number so far, and that of the lines behind: 17 comes before 18.
 unfoldable pub worse : ℕ → ℕ → ℕ
@@ -102,15 +103,16 @@ module _ (t : Tree) (bs : List ℕ) where
             c .inside,
           )
 
-      pub check-on : {n j : ℕ} → r .is ≡ true → n ≡ cond (r .«in_range») number notInRange → NextSetting t (k + 1) j → Checking t bs n (at + r .size) j
-      check-on {n} {j} e f m =
+      pub check-on : {n j : ℕ} {b : Bool} → r .is ≡ true → b ≡ (r .fits && mayHold (propertyIn t k) (r .word)) → n ≡ cond b number notInRange
+          → NextSetting t (k + 1) j → Checking t bs n (at + r .size) j
+      check-on {n} {j} {b} e i f m =
           record {
             inside = line-ends e;
             is = m .is;
             decides =
                 here h
-                ∙ ap (worse number) (sheet-line t k (settingsFrom t (k + 1)) (drop at bs) (sym (l .is) ∙ e) (l .in-range e))
-                ∙ worse-line (r .«in_range») number _
+                ∙ ap (worse number) (sheet-line t k (settingsFrom t (k + 1)) (drop at bs) (sym (l .is) ∙ e) (line-range l e i))
+                ∙ worse-line b number _
                 ∙ ap₂ (λ a xs. worse a (sheetNumber t (settingsFrom t (k + 1)) xs)) (sym f)
                 (drop-drop (lineSize (propertyIn t k) (drop at bs)) at bs ∙ ap (λ i. drop (at + i) bs) (sym (l .bytes e)))
                 ∙ ap (λ ks. worse n (sheetNumber t ks (drop (at + r .size) bs))) (m .same);
@@ -192,7 +194,7 @@ module _ (t : Tree) (bs old : List ℕ) where
     store-on {new} {j} e n =
         let next : List Cell = set (s .now) k (stored (cellIn (s .now) k) (r .word)) in
         let form : new ≡ cellsForm next = e ∙ ap (withWord k (r .word)) (s .bytes) ∙ word-stored (s .now) k (r .word) in
-        let word : r .word ≡ lineWord (propertyIn t k) (drop at bs) = l .word is-line (l .in-range is-line ∙ parts .1 .0) in
+        let word : r .word ≡ lineWord (propertyIn t k) (drop at bs) = line-stores l is-line (parts .1 .0) in
         record {
           inside = stored-ends;
           is = n .is;

@@ -24,7 +24,6 @@ use Rattle.text.proofs.ReadLaws.{told-fits, told-word, told-size}
 use Rattle.text.specs.declared.read.Told.{Told}
 use Rattle.sheet.specs.Steps.{LineIs}
 use Rattle.sheet.specs.declared.read.Line.{Line}
-use Rattle.sheet.proofs.SettingLaws.{hold-same}
 use Rattle.sheet.proofs.LabelLaws.{three}
 
 -- What stands behind a place, lent as a part.
@@ -68,7 +67,7 @@ module _ (p : Property) (bs : List ℕ) where
   none {r} e f =
       record {
         is = e ∙ sym f;
-        in-range = λ h. absurd (false≢true (sym e ∙ h));
+        fits = λ h. absurd (false≢true (sym e ∙ h));
         word = λ h. absurd (false≢true (sym e ∙ h));
         bytes = λ h. absurd (false≢true (sym e ∙ h));
       }
@@ -106,27 +105,27 @@ module _ (p : Property) (bs : List ℕ) where
               length-drop (suc (length (p .label))) bs,
             )
 
-        in-range-here : (told .fits && mayHold (numbersOf f) (told .word)) ≡ lineInRange p bs
-        unfolding lineInRange lineWord
-        in-range-here = go (told .fits) refl
-          where
-            fit : told .fits ≡ isWord (takesSign p) (numberIn (drop (suc (length (p .label))) bs))
-            fit = told-fits found is ∙ ap₂ (λ a x. isWord a (numberIn x)) same-sign lent
-
-            go : (b : Bool) → told .fits ≡ b → (told .fits && mayHold (numbersOf f) (told .word)) ≡ lineInRange p bs
-            go false g = ap (λ b. b && mayHold (numbersOf f) (told .word)) g ∙ sym (ap (λ b. b && mayHold p (lineWord p bs)) (sym fit ∙ g))
-            go true g =
-                ap₂ (λ a b. a && b) fit
-                (hold-same (told .word) fields ∙ ap (mayHold p) (told-word found is g ∙ ap (λ x. wordFor (numberIn x)) lent))
-
-        pub line-found : {start : ℕ} {b : Bool} → start ≡ suc (length (p .label)) → b ≡ (told .fits && mayHold (numbersOf f) (told .word))
-            → LineIs p bs (record { is = true; «in_range» = b; word = told .word; size = start + told .size })
+        pub line-found : {start : ℕ} → start ≡ suc (length (p .label))
+            → LineIs p bs (record { is = true; fits = told .fits; word = told .word; size = start + told .size })
         unfolding lineWord lineSize
-        line-found g h =
+        line-found g =
             record {
               is = sym (number-here ∙ is);
-              in-range = λ _. h ∙ in-range-here;
-              word =
-                  λ _ k. told-word found is (and-left (told .fits) _ (sym h ∙ k)) ∙ ap (λ x. wordFor (numberIn x)) lent;
+              fits = λ _. told-fits found is ∙ ap₂ (λ a x. isWord a (numberIn x)) same-sign lent;
+              word = λ _ k. told-word found is k ∙ ap (λ x. wordFor (numberIn x)) lent;
               bytes = λ _. ap₂ (λ a b. a + b) g size-here;
             }
+
+-- The number of a line that was read: whether the setting may hold it, and its word where it may.
+module _ {p : Property} {bs : List ℕ} {r : Line} (l : LineIs p bs r) (is : r .is ≡ true) where
+  pub line-range : {b : Bool} → b ≡ (r .fits && mayHold p (r .word)) → b ≡ lineInRange p bs
+  unfolding lineInRange
+  line-range e = e ∙ go (r .fits) refl
+    where
+      go : (b : Bool) → r .fits ≡ b → (r .fits && mayHold p (r .word)) ≡ lineInRange p bs
+      go false g = ap (λ b. b && mayHold p (r .word)) g ∙ sym (ap (λ b. b && mayHold p (lineWord p bs)) (sym (l .fits is) ∙ g))
+      go true g = ap₂ (λ a w. a && mayHold p w) (l .fits is) (l .word is g)
+
+  pub line-stores : lineInRange p bs ≡ true → r .word ≡ lineWord p bs
+  unfolding lineInRange
+  line-stores h = l .word is (l .fits is ∙ and-left _ (mayHold p (lineWord p bs)) h)

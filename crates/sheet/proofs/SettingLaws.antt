@@ -1,16 +1,19 @@
 -- The settings of a tree, one after the other.
 -- Assumes nothing.
 use Prim.Native.Nat.{ℕ, _+_, _<_, _≤_}
-use mathlib.Core.Path.{_≡_, refl, sym, ap, _∙_}
+use mathlib.Core.Path.{_≡_, refl, sym, ap, ap₂, _∙_}
 use mathlib.Core.Bool.{Bool, true, false, _&&_}
 use mathlib.Core.List.{List, [], _∷_}
 use lib.ListN.{length}
 use Rattle.protocol.specs.Bytes.{every}
 use Rattle.protocol.specs.Tree.{Property, Tree, canRead, canWrite, propertyIn}
+use Rattle.protocol.specs.Step.{onStep}
+use Rattle.protocol.specs.Answer.{inRange}
 use Rattle.protocol.specs.Sheet.{isSetting, mayHold, settingsOf}
 use Rattle.tree.specs.declared.record.Fields.{Fields}
 use Rattle.tree.specs.Lookup.{FieldsAre, numbersOf, placesIn}
 use Rattle.tree.proofs.RangeLaws.{range-same}
+use Rattle.tree.proofs.StepLaws.{on-same}
 use Rattle.tree.proofs.NextLaws.{places-none, places-next}
 use Rattle.sheet.specs.Steps.{settingsFrom, NextSetting}
 
@@ -21,8 +24,11 @@ setting-by p r w = simp (r, w)
 pub setting-same : {p : Property} {f : Fields} → FieldsAre p f → isSetting (numbersOf f) ≡ isSetting p
 setting-same h = rw (h .attribute)
 
-pub hold-same : (v : ℕ) {p : Property} {f : Fields} → FieldsAre p f → mayHold (numbersOf f) v ≡ mayHold p v
-hold-same v h = range-same v h
+-- What it may hold, by its two tests.
+pub hold-by : (v : ℕ) {p : Property} {f : Fields} {within on : Bool} → FieldsAre p f → within ≡ inRange (numbersOf f) v → on ≡ onStep (numbersOf f) v
+    → (within && on) ≡ mayHold p v
+unfolding mayHold
+hold-by v h r s = ap₂ (λ a b. a && b) (r ∙ range-same v h) (s ∙ on-same v h)
 
 pub settings-all : (t : Tree) → settingsOf t ≡ settingsFrom t 0
 unfolding settingsOf placesIn

@@ -28,7 +28,7 @@ use Rattle.cells.specs.Lent.{isLent, readingOf}
 use Rattle.cells.specs.declared.Reading.the-variants.{Word, Nothing}
 use Rattle.cells.proofs.ReadingLaws.{word-read, none-read}
 use Rattle.sheet.specs.Steps.{settingsFrom, NextSetting}
-use Rattle.sheet.proofs.SettingLaws.{hold-same, settings-all, settings-here, settings-end, Tests, Trying, try-begins, try-on, try-fails, try-ends, every-tests}
+use Rattle.sheet.proofs.SettingLaws.{settings-all, settings-here, settings-end, Tests, Trying, try-begins, try-on, try-fails, try-ends, every-tests}
 
 pub lent-tree : (tree cells : List ℕ) → isLent tree cells ≡ true → isTree tree ≡ true
 unfolding isLent
@@ -44,9 +44,6 @@ module _ (tree cells : List ℕ) (lent : isLent tree cells ≡ true) (k : ℕ) (
 
   pub setting-has : {A : Type 0} → Nothing ≡ readingOf (reading (propertyIn (seen tree) k) (cellIn (cellsIn cells) k)) → A
   setting-has h = absurd (Option·none-ne-some _ (sym (none-read _ h) ∙ has-word))
-
-pub range-is : {p : Property} {f : Fields} {v w : ℕ} {r : Bool} → FieldsAre p f → v ≡ w → r ≡ mayHold (numbersOf f) v → r ≡ mayHold p w
-range-is {p} {f} {v} h e s = s ∙ hold-same v h ∙ ap (mayHold p) e
 
 -- Every setting, one after the other.
 abbrev ranged : Tree → List Cell → ℕ → Bool

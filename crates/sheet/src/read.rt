@@ -9,7 +9,6 @@ use text::read;
 use tree::part;
 use tree::range;
 use tree::record;
-use tree::record::Fields;
 ghost use mathlib.Core.Path.{_≡_};
 ghost use mathlib.Core.Bool.{true, false, cond, _&&_};
 ghost use lib.ListN.{length, getD};
@@ -19,15 +18,14 @@ ghost use Rattle.protocol.specs.Text.{begins};
 ghost use Rattle.protocol.specs.Tree.{propertyIn};
 ghost use Rattle.protocol.specs.Sheet.{mayHold, settingsOf, sheetNumber, loaded};
 ghost use Rattle.tree.specs.Seen.{seen};
-ghost use Rattle.tree.specs.Lookup.{numbersOf};
 ghost use Rattle.cells.specs.Cells.{cellsIn, cellsForm, hasCells};
 ghost use Rattle.sheet.specs.Steps.{LineIs};
 
-// A line that was read: whether it is one of its setting, and if so, whether its number is in range, the word that is to be
-// stored, and how many bytes the line takes.
+// A line that was read: whether it is one of its setting, and if so, whether its number is one of 32 bits, the word that it is,
+// and how many bytes the line takes.
 pub(crate) struct Line {
     pub is: bool,
-    pub in_range: bool,
+    pub fits: bool,
     pub word: u32,
     pub size: usize,
 }
@@ -37,7 +35,7 @@ fn nothing() -> Line
 {
     Line {
         is: false,
-        in_range: false,
+        fits: false,
         word: 0,
         size: 0,
     }
@@ -54,16 +52,6 @@ fn has_label(label: &[u8], bs: &[u8]) -> bool
         return false;
     }
     read::begins(label, bs)
-}
-
-// Whether a number that was read is one of 32 bits, and then in the range of a property.
-fn is_in_range(f: Fields, fits: bool, value: u32) -> bool
-    ensures { λ r. ⌜ r ≡ (fits && mayHold (numbersOf f) value) ⌝ }
-{
-    if !fits {
-        return false;
-    }
-    setting::may_hold(f, value)
 }
 
 // The line of the property at a place, at the front of what is left of a sheet.
@@ -84,10 +72,20 @@ fn read_line(tree: &[u8], k: usize, bs: &[u8]) -> Line
     }
     Line {
         is: true,
-        in_range: is_in_range(f, told.fits, told.word),
+        fits: told.fits,
         word: told.word,
         size: start + told.size,
     }
+}
+
+// Whether a number that was read is one of 32 bits, and then one that the setting at a place may hold.
+fn is_in_range(tree: &[u8], k: usize, fits: bool, value: u32) -> bool
+    ensures { λ r. ⌜ r ≡ (fits && mayHold (propertyIn (seen (now (tree .entry))) k) value) ⌝ }
+{
+    if !fits {
+        return false;
+    }
+    setting::may_hold(tree, k, value)
 }
 
 // Number 18 where a line's number is not in range, else the number so far.
@@ -113,7 +111,7 @@ pub(crate) fn check_lines(tree: &[u8], sheet: &[u8]) -> u8
         if !line.is {
             return BAD_SHEET;
         }
-        number = number_after(number, line.in_range);
+        number = number_after(number, is_in_range(tree, k, line.fits, line.word));
         at += line.size;
         k = setting::next(tree, k + 1);
     }

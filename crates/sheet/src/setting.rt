@@ -2,7 +2,9 @@
 use tree::range;
 use tree::record;
 use tree::record::Fields;
+use tree::step;
 ghost use mathlib.Core.Path.{_≡_};
+ghost use Rattle.protocol.specs.Tree.{propertyIn};
 ghost use Rattle.protocol.specs.Sheet.{isSetting, mayHold};
 ghost use Rattle.tree.specs.Seen.{seen};
 ghost use Rattle.tree.specs.Lookup.{numbersOf};
@@ -18,11 +20,15 @@ fn is_setting(f: Fields) -> bool
     f.can_write()
 }
 
-// Whether a setting may hold a word.
-pub(crate) fn may_hold(f: Fields, word: u32) -> bool
-    ensures { λ r. ⌜ r ≡ mayHold (numbersOf f) word ⌝ }
+// Whether the setting at a place may hold a word: it is in range, and on its step.
+pub(crate) fn may_hold(tree: &[u8], k: usize, word: u32) -> bool
+    ensures { λ r. ⌜ r ≡ mayHold (propertyIn (seen (now (tree .entry))) k) word ⌝ }
 {
-    range::in_range(f, word)
+    let f = record::read_fields(tree, k);
+    if range::in_range(f, word) {
+        return step::on_step(f, word);
+    }
+    false
 }
 
 // The place of the next setting, from a place on; behind the last property where there is none.

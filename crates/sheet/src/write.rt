@@ -32,7 +32,7 @@ fn is_in_range(tree: &[u8], cells: &[u8], k: usize) -> bool
     ensures { λ r. ⌜ r ≡ mayHold (propertyIn (seen (now (tree .entry))) k) (cellIn (cellsIn (now (cells .entry))) k .word) ⌝ }
 {
     let w = word_of(tree, cells, k);
-    setting::may_hold(record::read_fields(tree, k), w)
+    setting::may_hold(tree, k, w)
 }
 
 // Whether every setting holds a word in range.

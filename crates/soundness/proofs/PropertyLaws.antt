@@ -12,9 +12,9 @@ use lib.ListN.{length, getD, take, drop, length-append}
 use lib.Seq.{length-take-le, drop-drop, take-add, drop-append-seam}
 use lib.Dec.{eqb, leb, ltb}
 use Rattle.protocol.specs.Numbers.{halfEnd, wordEnd, standard, enumeration, maxOption, maxTexts, nameRoom}
-use Rattle.protocol.specs.Bytes.{Bytes, every, half, word, text, texts, atMost}
+use Rattle.protocol.specs.Bytes.{Bytes, every, half, word, text, texts}
 use Rattle.protocol.specs.Request.{beforeZero}
-use Rattle.protocol.specs.Tree.{Property, isSigned, isText, isName, liveSound, standardSound, enumerationSound, kindSound, optionsSound, widthsSound, propertySound}
+use Rattle.protocol.specs.Tree.{Property, isText, isName, liveSound, standardFits, standardSound, enumerationSound, kindSound, optionsSound, widthsSound, propertySound}
 use Rattle.protocol.specs.Answer.{recordTexts}
 use Rattle.protocol.proofs.TestLaws.{and-left, and-right, and-both}
 use Rattle.protocol.proofs.ListLaws.{number-word}
@@ -67,7 +67,7 @@ count-some kind max = go (eqb kind enumeration)
 -- The rules of the type: with the right number of texts they are those of a sound property.
 module _ (p : Property) where
   pub fits-by : (t : Bool) → eqb (p .kind) standard ≡ t
-      → kindFits p ≡ cond t (atMost (isSigned p) (p .min) (p .max)) (eqb (p .kind) enumeration && (eqb (p .min) 0 && leb (p .max) maxOption))
+      → kindFits p ≡ cond t (standardFits p) (eqb (p .kind) enumeration && (eqb (p .min) 0 && leb (p .max) maxOption))
   unfolding kindFits
   fits-by t e = rw e
 
@@ -104,7 +104,7 @@ module _ (p : Property) where
     where
       go : (t : Bool) → eqb (p .kind) standard ≡ t → (kindFits p ≡ true) × (length (p .options) ≡ optionCount (p .kind) (p .max))
       go true e =
-          let all : (eqb (length (p .options)) 1 && atMost (isSigned p) (p .min) (p .max)) ≡ true = sym (sound-by true e) ∙ h in (
+          let all : (eqb (length (p .options)) 1 && standardFits p) ≡ true = sym (sound-by true e) ∙ h in (
             fits-by true e ∙ and-right (eqb (length (p .options)) 1) _ all,
             eqb-true (length (p .options)) 1 (and-left (eqb (length (p .options)) 1) _ all)
                 ∙ sym (count-standard (p .kind) (p .max) (eqb-true (p .kind) standard e)),

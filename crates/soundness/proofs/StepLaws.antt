@@ -5,16 +5,16 @@ use native.Mathlib.Omega.{arith}
 use native.Mathlib.Nat.{zero-mul, suc-mul, sub-zero, add-zero, add-assoc}
 use native.Mathlib.Numerals.{add-one}
 use mathlib.Core.Path.{_≡_, refl, sym, ap, ap₂, subst, _∙_}
-use mathlib.Core.Bool.{Bool, true, false, cond, not, _&&_, and-false}
+use mathlib.Core.Bool.{Bool, true, false, cond, not, _&&_, and-true, and-false}
 use mathlib.Core.List.{List}
 use mathlib.Core.Option.{Option, none, some, Option·some-injective}
-use borrow.Author.Tests.{leb-true, le-leb, eq-eqb, ne-eqb}
+use borrow.Author.Tests.{leb-true, le-leb, lt-leb, eq-eqb, ne-eqb}
 use lib.ListN.{length, getD, drop}
 use lib.Seq.{drop-drop}
 use lib.Dec.{eqb, leb}
-use Rattle.protocol.specs.Numbers.{standard, enumeration, maxNodes, maxProperties, maxOption, maxTexts, nameRoom}
+use Rattle.protocol.specs.Numbers.{standard, enumeration, lastStepCode, maxNodes, maxProperties, maxOption, maxTexts, nameRoom}
 use Rattle.protocol.specs.Bytes.{atMost}
-use Rattle.protocol.specs.Tree.{Property, isSigned, canRead, canWrite, isLive, liveSound, propertyIn}
+use Rattle.protocol.specs.Tree.{Property, isSigned, canRead, canWrite, isLive, stepCode, standardFits, liveSound, propertyIn}
 use Rattle.protocol.proofs.TestLaws.{and-left, and-right}
 use Rattle.tree.specs.declared.Found.{Found}
 use Rattle.tree.specs.declared.Found.the-variants.{At, Nothing}
@@ -132,8 +132,18 @@ unfolding liveSound
 live-by p {live} {reads} e f g =
     sym (ap₂ (λ l r. cond l (r && not (canWrite p)) true) e f ∙ ap (λ w. cond live (reads && not w) true) g)
 
+-- Type 1: its step code means none, or its range decides.
+module _ (p : Property) {code : ℕ} (is : code ≡ stepCode p) where
+  pub stepless : lastStepCode < code → false ≡ standardFits p
+  stepless h = let no-code : leb (stepCode p) lastStepCode ≡ false = lt-leb (stepCode p) lastStepCode (omega (arith, is, h)) in
+      sym (rw no-code (and-false (atMost (isSigned p) (p .min) (p .max))))
+
+  pub stepped : {signed ranged : Bool} → code ≤ lastStepCode → signed ≡ isSigned p → ranged ≡ atMost signed (p .min) (p .max) → ranged ≡ standardFits p
+  stepped h s r = let coded : leb (stepCode p) lastStepCode ≡ true = le-leb (stepCode p) lastStepCode (omega (arith, is, h)) in
+      r ∙ ap (λ b. atMost b (p .min) (p .max)) s ∙ sym (rw coded (and-true (atMost (isSigned p) (p .min) (p .max))))
+
 pub kind-by : (p : Property) {one two low : Bool} → eqb (p .kind) standard ≡ one → eqb (p .kind) enumeration ≡ two → eqb (p .min) 0 ≡ low
-    → cond one (atMost (isSigned p) (p .min) (p .max)) (two && (low && leb (p .max) maxOption)) ≡ kindFits p
+    → cond one (standardFits p) (two && (low && leb (p .max) maxOption)) ≡ kindFits p
 unfolding kindFits
 kind-by p e f g = rw (e, f, g)
 

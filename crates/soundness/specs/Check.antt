@@ -7,8 +7,7 @@ use mathlib.Core.Option.{Option, none, some}
 use lib.ListN.{length, getD, take, drop}
 use lib.Dec.{eqb, ltb, leb}
 use Rattle.protocol.specs.Numbers.{standard, enumeration, maxDepth, nameRoom, maxNodes, maxProperties, maxOption, maxTexts}
-use Rattle.protocol.specs.Bytes.{atMost}
-use Rattle.protocol.specs.Tree.{Property, isSigned, isCharacter, liveSound}
+use Rattle.protocol.specs.Tree.{Property, isCharacter, standardFits, liveSound}
 use Rattle.tree.specs.Form.{nodeSize, propertySize, propertiesStart, textsStart}
 use Rattle.tree.specs.Seen.{halfAt, wordAt, recordsFrom, optionCount, propertySeen, nodeCount, propertyCount}
 
@@ -43,7 +42,7 @@ nodeEnd bs r at = cond (eqb (halfAt 1 r) at) (textsEndIn bs nameRoom 1 at) none
 unfoldable pub kindFits : Property → Bool
 kindFits p =
     cond (eqb (p .kind) standard)
-    (atMost (isSigned p) (p .min) (p .max))
+    (standardFits p)
     (eqb (p .kind) enumeration && (eqb (p .min) 0 && leb (p .max) maxOption))
 
 unfoldable pub fieldsFit : ℕ → Property → Bool

@@ -4,6 +4,7 @@ mod parents;
 mod texts;
 
 use protocol::ENUMERATION;
+use protocol::LAST_STEP_CODE;
 use protocol::MAX_NODES;
 use protocol::MAX_OPTION;
 use protocol::MAX_PROPERTIES;
@@ -19,7 +20,7 @@ use tree::record::Fields;
 ghost use mathlib.Core.Path.{_≡_};
 ghost use Prim.Native.Nat.{_+_, _*_, _≤_, _<_};
 ghost use lib.ListN.{length, getD, drop};
-ghost use Rattle.protocol.specs.Tree.{liveSound};
+ghost use Rattle.protocol.specs.Tree.{standardFits, liveSound};
 ghost use Rattle.tree.specs.Form.{nodeSize, propertySize, propertiesStart};
 ghost use Rattle.tree.specs.Seen.{nodeCount, propertyCount};
 ghost use Rattle.tree.specs.Lookup.{foundOf, numbersOf};
@@ -55,12 +56,22 @@ fn names_end(tree: &[u8], start: usize) -> Found
     Found::At(at)
 }
 
-// The range or the options of a property, by its type.
+// The numbers of type 1: its range, and a step code that means a step.
+fn standard_fits(f: Fields) -> bool
+    ensures { λ r. ⌜ r ≡ standardFits (numbersOf f) ⌝ }
+{
+    if LAST_STEP_CODE < f.step_code() {
+        return false;
+    }
+    record::at_most(f.is_signed(), f.min, f.max)
+}
+
+// The numbers of a property that its type has rules for.
 fn kind_fits(f: Fields) -> bool
     ensures { λ r. ⌜ r ≡ kindFits (numbersOf f) ⌝ }
 {
     if f.kind == STANDARD {
-        return record::at_most(f.is_signed(), f.min, f.max);
+        return standard_fits(f);
     }
     if f.kind != ENUMERATION {
         return false;

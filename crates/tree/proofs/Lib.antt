@@ -6,4 +6,5 @@ pub mod NumberLaws
 pub mod TextLaws
 pub mod FieldLaws
 pub mod RangeLaws
+pub mod StepLaws
 pub mod NextLaws

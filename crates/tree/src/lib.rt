@@ -6,6 +6,7 @@ pub mod live;
 pub mod part;
 pub mod range;
 pub mod record;
+pub mod step;
 mod texts;
 
 // Sizes of records in the lent forms (docs/FORMATS.md).

@@ -6,8 +6,10 @@ use super::texts;
 use protocol::BIT_LIVE;
 use protocol::BIT_READ;
 use protocol::BIT_SIGNED;
+use protocol::BIT_STEP;
 use protocol::BIT_WRITE;
 use protocol::ENUMERATION;
+use protocol::STEP_MASK;
 ghost use mathlib.Core.Path.{_≡_};
 ghost use Prim.Native.Nat.{_+_, _<_, _≤_, _^_};
 ghost use mathlib.Core.List.{[]};
@@ -15,12 +17,12 @@ ghost use lib.ListN.{length, getD};
 ghost use Rattle.protocol.specs.Numbers.{bitRead, bitWrite, bitLive, bitSigned};
 ghost use Rattle.protocol.specs.Bytes.{bit, text, ordered, atMost};
 ghost use Rattle.protocol.specs.Buffer.{Put, fitting};
-ghost use Rattle.protocol.specs.Tree.{nodeIn, propertyIn};
+ghost use Rattle.protocol.specs.Tree.{nodeIn, propertyIn, stepCode};
 ghost use Rattle.protocol.specs.Answer.{recordTexts};
 ghost use Rattle.tree.specs.Form.{propertiesStart};
 ghost use Rattle.tree.specs.Seen.{propertySeen, seen, optionCount};
 ghost use Rattle.tree.specs.Steps.{entries};
-ghost use Rattle.tree.specs.Lookup.{FieldsAre};
+ghost use Rattle.tree.specs.Lookup.{FieldsAre, numbersOf};
 
 // What a property's record holds beside its texts.
 pub struct Fields {
@@ -56,10 +58,16 @@ impl Fields {
     {
         (self.format >> BIT_SIGNED) % 2 == 1
     }
+
+    pub fn step_code(self) -> u16
+        ensures { λ r. ⌜ r ≡ stepCode (numbersOf self) ⌝ }
+    {
+        (self.format >> BIT_STEP) & STEP_MASK
+    }
 }
 
 // A word as it is compared: of a signed one the sign bit is turned over.
-fn ordered_word(signed: bool, n: u32) -> u32
+pub(crate) fn ordered_word(signed: bool, n: u32) -> u32
     ensures { λ r. ⌜ r ≡ ordered signed n ⌝ }
 {
     if !signed {

@@ -142,15 +142,18 @@ fn head(request: &Request, writer: &mut Writer) {
     writer.byte(request.index);
 }
 
+/// "Read only", "Range" and "Step", in that order (document 02, section 6); an action takes any value.
 fn try_write(property: &Property, value: u32) -> Written {
     if !property.has(WRITE) {
         Written { save: 0, text: b"Read only" }
     } else if property.is_action() {
         Written { save: 2, text: b"" }
-    } else if property.in_range(value) {
-        Written { save: 1, text: b"" }
-    } else {
+    } else if !property.in_range(value) {
         Written { save: 0, text: b"Range" }
+    } else if !property.on_step(value) {
+        Written { save: 0, text: b"Step" }
+    } else {
+        Written { save: 1, text: b"" }
     }
 }
 

@@ -29,10 +29,10 @@ fn can_be_written(tree: &Tree) -> bool {
     differ && labels.iter().all(|label| !label.contains(&b'='))
 }
 
-/// The word of a number that has 32 bits and lies in the range.
+/// The word of a number that has 32 bits and that the setting may hold.
 fn word_of(property: &Property, number: i64) -> Option<u32> {
     let word = if property.is_signed() { i32::try_from(number).ok()? as u32 } else { u32::try_from(number).ok()? };
-    property.in_range(word).then_some(word)
+    property.may_hold(word).then_some(word)
 }
 
 fn put_decimal(number: i64, to: &mut Vec<u8>) {
@@ -59,7 +59,7 @@ fn lines(tree: &[u8], cells: &[u8]) -> Result<Vec<u8>, u8> {
     let mut sheet = Vec::with_capacity(LINE_ROOM * tree.properties.len());
     for (place, property) in settings(&tree) {
         let word = word(cells, place);
-        if !property.in_range(word) {
+        if !property.may_hold(word) {
             return Err(OUT_OF_RANGE);
         }
         sheet.extend(property.label);

@@ -1,4 +1,4 @@
-//! The tree ("The tree"), its rules and its lent form (docs/FORMATS.md).
+//! The tree ("The tree"; steps: document 02, section 6), its rules and its lent form (docs/FORMATS.md).
 
 const MOST_NODES: usize = 64;
 const MOST_PROPERTIES: usize = 128;
@@ -12,6 +12,8 @@ pub const READ: u16 = 0x0001;
 pub const WRITE: u16 = 0x0002;
 pub const LIVE: u16 = 0x2000;
 const SIGNED: u16 = 0x8000;
+/// Document 02, section 6: what the step codes 0 to 11 mean.
+const STEPS: [i64; 12] = [1, 2, 5, 10, 20, 50, 100, 200, 500, 1000, 2000, 5000];
 
 #[derive(Clone, Debug, PartialEq)]
 pub struct Node<'a> {
@@ -84,13 +86,29 @@ impl Property<'_> {
         free || self.ordered(self.min, value) && self.ordered(value, self.max)
     }
 
+    /// The step that format bits 11 to 8 mean in type 1, if any.
+    fn step(&self) -> Option<i64> {
+        STEPS.get(usize::from(self.format >> 8 & 0xF)).copied()
+    }
+
+    /// Whether a value's distance from min is a multiple of the step; min is 0 where there is no range. Type 2 has no step.
+    pub fn on_step(&self, value: u32) -> bool {
+        let distance = self.number(value) - self.number(self.min);
+        self.kind == 2 || self.step().is_some_and(|step| distance % step == 0)
+    }
+
+    /// Whether a setting may hold a value.
+    pub fn may_hold(&self, value: u32) -> bool {
+        self.in_range(value) && self.on_step(value)
+    }
+
     fn attribute_is_sound(&self) -> bool {
         !self.has(LIVE) || self.has(READ) && !self.has(WRITE)
     }
 
-    fn range_is_sound(&self) -> bool {
+    fn numbers_are_sound(&self) -> bool {
         match self.kind {
-            1 => self.ordered(self.min, self.max),
+            1 => self.ordered(self.min, self.max) && self.step().is_some(),
             2 => self.min == 0 && self.max <= 15,
             _ => false,
         }
@@ -182,7 +200,7 @@ fn read_property<'a>(record: &[u8], nodes: usize, texts: &mut Texts<'a>) -> Opti
         label: &[],
         texts: &[],
     };
-    if usize::from(property.node) >= nodes || !property.attribute_is_sound() || !property.range_is_sound() {
+    if usize::from(property.node) >= nodes || !property.attribute_is_sound() || !property.numbers_are_sound() {
         return None;
     }
     property.label = texts.placed(&record[14..], MOST_NAME)?;

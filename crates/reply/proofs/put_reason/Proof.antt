@@ -42,6 +42,15 @@ slice-aggregate-put-all-4 c = search needs
 put-all-requires-4 : tie.Need-put-all-requires-4
 put-all-requires-4 c κs = search needs
 
+enum-told-5 : tie.Need-enum-told-5
+enum-told-5 c = search needs
+
+slice-aggregate-put-all-5 : tie.Need-slice-aggregate-put-all-5
+slice-aggregate-put-all-5 c = search needs
+
+put-all-requires-5 : tie.Need-put-all-requires-5
+put-all-requires-5 c κs = search needs
+
 same-length : tie.Need-same-length
 same-length c = search needs
 
@@ -78,6 +87,15 @@ returns-4 c =
     let put = c .before .before in
     put-reason-of (put .before .before .before .enum-told4 .given .1) (put .put-all4 .ensures)
 
+same-length-5 : tie.Need-same-length-5
+same-length-5 c = search needs
+
+returns-5 : tie.Need-returns-5
+unfolding text reason
+returns-5 c =
+    let put = c .before .before in
+    put-reason-of (put .before .before .before .enum-told5 .given .1) (put .put-all5 .ensures)
+
 pub put-reason-spec : {M : Type 1} → statement M
 put-reason-spec =
     tie.close
@@ -94,6 +112,9 @@ put-reason-spec =
     enum-told-4
     slice-aggregate-put-all-4
     put-all-requires-4
+    enum-told-5
+    slice-aggregate-put-all-5
+    put-all-requires-5
     same-length
     returns
     same-length-2
@@ -101,4 +122,6 @@ put-reason-spec =
     same-length-3
     returns-3
     same-length-4
-    returns-4)
+    returns-4
+    same-length-5
+    returns-5)

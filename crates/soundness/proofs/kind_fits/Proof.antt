@@ -1,26 +1,21 @@
 -- `soundness::kind_fits` meets its contract. Assumes nothing.
-use mathlib.Core.Path.{refl, ap, _∙_}
+use mathlib.Core.Path.{refl, _∙_}
 use borrow.Author.Tests.{eq-eqb, ne-eqb}
 use borrow.Author.Needs.{needs}
 use Rattle.protocol.specs.Numbers.{standard, enumeration}
-use Rattle.protocol.specs.Bytes.{atMost}
 use Rattle.tree.specs.Lookup.{numbersOf}
 use Rattle.soundness.proofs.StepLaws.{kind-by}
 use Rattle.soundness.proofs.kind_fits.Statement.{statement}
 use Rattle.soundness.proofs.kind_fits.Tie as tie
 
-is-signed-requires : tie.Need-is-signed-requires
-is-signed-requires c κs = search needs
-
-at-most-requires : tie.Need-at-most-requires
-at-most-requires c κs = search needs
+standard-fits-requires : tie.Need-standard-fits-requires
+standard-fits-requires c κs = search needs
 
 returns : tie.Need-returns
 returns c =
-    let f = c .before .before .before .before .args .f in
-    c .at-most .ensures
-    ∙ ap (λ s. atMost s (f .min) (f .max)) (c .before .is-signed .ensures)
-    ∙ kind-by (numbersOf f) (eq-eqb (f .kind) standard (c .before .before .if1 .taken)) refl refl
+    let then1 = c .before in
+    let f = then1 .before .before .args .f in
+    c .standard-fits .ensures ∙ kind-by (numbersOf f) (eq-eqb (f .kind) standard (then1 .if1 .taken)) refl refl
 
 returns-2 : tie.Need-returns-2
 returns-2 c =
@@ -48,4 +43,4 @@ returns-4 c =
 
 pub kind-fits-spec : {M : Type 1} → statement M
 kind-fits-spec =
-    tie.close (tie.spec is-signed-requires at-most-requires returns returns-2 returns-3 returns-4)
+    tie.close (tie.spec standard-fits-requires returns returns-2 returns-3 returns-4)

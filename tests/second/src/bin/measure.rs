@@ -127,6 +127,14 @@ fn buslink_rows(rows: &mut Vec<Row>) {
     rows.push(row("buslink_receive", 1, Work::BuslinkReceive { identifier, data }));
 }
 
+/// Op 4 on the bench tree with Average in steps of 5: 1, 6, .. 61.
+fn step_row(rows: &mut Vec<Row>) {
+    let mut tree = bench::tree();
+    tree.properties[2].format = 0x0200;
+    let (cells, request) = (bench::CELLS.to_vec(), request_data(4, &[1, 2], 1, 61));
+    rows.push(row("op4-step", 1, Work::Serve { tree: tree.write(), cells, request }));
+}
+
 /// Each op on a tree, the firmware's reading of the same property, the tree's listing and its check.
 fn tree_rows(rows: &mut Vec<Row>, name: &str, tree: Vec<u8>, cells: Vec<u8>, path: &[u8], index: u8) {
     for op in 0..=5 {
@@ -154,6 +162,7 @@ fn rows() -> Vec<Row> {
         row("frame-varied", 1, Work::Frame { data: (1..=256).map(varied).collect(), at: 0 }),
     ];
     tree_rows(&mut rows, "bench", bench::tree().write(), bench::CELLS.to_vec(), &[1, 2], 1);
+    step_row(&mut rows);
     tree_rows(&mut rows, "largest", bench::largest().write(), vec![0; 640], &[1; 16], 2);
     sheet_rows(&mut rows, "bench", bench::tree().write(), bench::CELLS.to_vec());
     let (tree, cells) = (bench::settings().write(), bench::settings_cells());

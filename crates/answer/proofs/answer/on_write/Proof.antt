@@ -83,6 +83,12 @@ enum-told-4 c = search needs
 not-saved-requires-2 : tie.Need-not-saved-requires-2
 not-saved-requires-2 c κs = search needs
 
+enum-told-5 : tie.Need-enum-told-5
+enum-told-5 c = search needs
+
+not-saved-requires-3 : tie.Need-not-saved-requires-3
+not-saved-requires-3 c κs = search needs
+
 same-length : tie.Need-same-length
 same-length c = search needs
 
@@ -130,6 +136,17 @@ returns-4 c =
     let done = c .not-saved2 .ensures in
     wrote put (ap meaning (arm .enum-told4 .given .1)) (done .0) (done .1 .0) (done .1 .1) (lent put)
 
+same-length-6 : tie.Need-same-length-6
+same-length-6 c = search needs
+
+returns-5 : tie.Need-returns-5
+unfolding writeNumber actionOf cellsAfter
+returns-5 c =
+    let arm = c .before in
+    let put = arm .before .before in
+    let done = c .not-saved3 .ensures in
+    wrote put (ap meaning (arm .enum-told5 .given .1)) (done .0) (done .1 .0) (done .1 .1) (lent put)
+
 pub on-write-spec : {M : Type 1} → statement M
 on-write-spec =
     tie.close
@@ -145,6 +162,8 @@ on-write-spec =
     not-saved-requires
     enum-told-4
     not-saved-requires-2
+    enum-told-5
+    not-saved-requires-3
     same-length
     same-length-2
     returns
@@ -153,4 +172,6 @@ on-write-spec =
     same-length-4
     returns-3
     same-length-5
-    returns-4)
+    returns-4
+    same-length-6
+    returns-5)

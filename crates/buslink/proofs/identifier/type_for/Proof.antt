@@ -7,7 +7,7 @@ use borrow.Author.Tests.{not-true, not-false}
 use borrow.Author.Needs.{needs}
 use lib.Bits.{bitAnd, mask-lt}
 use Rattle.buslink.specs.Identifier.{isStation, isIndicatorType}
-use Rattle.buslink.proofs.PackLaws.{packing}
+use Rattle.protocol.proofs.PackLaws.{packing}
 use Rattle.buslink.proofs.IdentifierLaws.{not-station, not-carried, not-its, its-own}
 use Rattle.buslink.proofs.identifier.type_for.Statement.{statement}
 use Rattle.buslink.proofs.identifier.type_for.Tie as tie

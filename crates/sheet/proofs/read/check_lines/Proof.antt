@@ -69,12 +69,15 @@ returns c =
     check-fails (seen (args .tree .now)) (args .sheet .now) (in-loop .before .loop .inv) (listed in-loop) (line-of read)
     (not-true (read .read-line .result .is) (c .if1 .taken))
 
+is-in-range-requires : tie.Need-is-in-range-requires Inv-loop μ-loop
+is-in-range-requires c κs = search needs
+
 number-after-requires : tie.Need-number-after-requires Inv-loop μ-loop
 number-after-requires c κs = search needs
 
 add-at : tie.Need-add-at Inv-loop μ-loop
 add-at c =
-    let else1 = c .before .before in
+    let else1 = c .before .before .before in
     let read = else1 .before .before in
     let in-loop = read .before .before in
     let args = start-of in-loop .args in
@@ -97,12 +100,13 @@ loop-less c = omega (arith, c .next2 .ensures .behind)
 loop-again : tie.Need-loop-again Inv-loop μ-loop
 loop-again c =
     let after = c .before .before in
-    let else1 = after .before in
+    let ranged = after .before in
+    let else1 = ranged .before in
     let read = else1 .before .before in
     let in-loop = read .before .before in
     let args = start-of in-loop .args in
     check-on (seen (args .tree .now)) (args .sheet .now) (in-loop .before .loop .inv) (listed in-loop) (line-of read)
-    (not-false (read .read-line .result .is) (else1 .if1 .left)) (after .number-after .ensures) (c .next2 .ensures)
+    (not-false (read .read-line .result .is) (else1 .if1 .left)) (ranged .is-in-range .ensures) (after .number-after .ensures) (c .next2 .ensures)
 
 returns-2 : tie.Need-returns-2 Inv-loop μ-loop
 returns-2 c =
@@ -134,6 +138,7 @@ check-lines-spec =
     part-read-line-end
     read-line-requires
     returns
+    is-in-range-requires
     number-after-requires
     add-at
     add-next

@@ -101,12 +101,9 @@ returns-2 c =
     (not-true (told .read-number .result .is) (c .before .if2 .taken))
     (c .nothing2 .ensures)
 
-is-in-range-requires : tie.Need-is-in-range-requires
-is-in-range-requires c κs = search needs
-
 add-t12 : tie.Need-add-t12
 add-t12 c =
-    let else2 = c .before .before in
+    let else2 = c .before in
     let told = else2 .before .before in
     let else1 = told .before .before .before .before in
     let asked = else1 .before in
@@ -126,8 +123,7 @@ add-t12 c =
 
 returns-3 : tie.Need-returns-3
 returns-3 c =
-    let tested = c .before in
-    let else2 = tested .before in
+    let else2 = c .before in
     let told = else2 .before .before in
     let else1 = told .before .before .before .before in
     let asked = else1 .before in
@@ -139,7 +135,6 @@ returns-3 c =
     (told .read-number .ensures)
     (not-false (told .read-number .result .is) (else2 .if2 .left))
     (sym (length-of asked))
-    (tested .is-in-range .ensures)
 
 pub read-line-spec : {M : Type 1} → statement M
 read-line-spec =
@@ -162,6 +157,5 @@ read-line-spec =
     read-number-requires
     nothing-requires-2
     returns-2
-    is-in-range-requires
     add-t12
     returns-3)

@@ -1,7 +1,9 @@
 //! The cases of document 01 and of its readings, each with the bytes the paper gives; of document 02, the bench tree's listing, its
-//! sheet and its Buslink frames, and stray 10h.
+//! sheet and its Buslink frames, stray 10h, and steps.
 use crate::input::{Call, Input};
 use crate::random::Random;
+use crate::sheet_sweep::tree_of;
+use crate::sheets::setting;
 use crate::strays::at_every_cut;
 use crate::tally::Tally;
 use second::buslink::{Station, RECORDS_SIZE};
@@ -134,6 +136,31 @@ const INDICATORS: [(&str, u64, [(i32, u8, u8); 2]); 4] = [
     ("01000040 0001007F", 0, [(1, 0x40, 0), (256, 0x78, 7)]),
 ];
 
+/// Document 02, section 6: the steps of codes 0 to 11.
+const STEPS: [u32; 12] = [1, 2, 5, 10, 20, 50, 100, 200, 500, 1000, 2000, 5000];
+
+/// Format, min and max of a type 1 setting, a value that is written by op 5, and the reply's save and text.
+const STEPPED: [(u16, i64, i64, i64, &str); 16] = [
+    // "A setting in steps of 5 took 7": from min, between the ends
+    (0x0200, 0, 100, 7, "00 53 74 65 70 00"),
+    (0x0200, 0, 100, 100, "01 00"),
+    (0x0200, 0, 100, 105, "00 52 61 6E 67 65 00"),
+    (0x0200, 0, 100, 107, "00 52 61 6E 67 65 00"),
+    (0x0200, 1, 64, 61, "01 00"),
+    (0x0200, 1, 64, 60, "00 53 74 65 70 00"),
+    (0x8200, -7, 7, -7, "01 00"),
+    (0x8200, -7, 7, -2, "01 00"),
+    (0x8200, -7, 7, 3, "01 00"),
+    (0x8200, -7, 7, 0, "00 53 74 65 70 00"),
+    (0x8200, -7, 7, 7, "00 53 74 65 70 00"),
+    (0x8B00, -0x8000_0000, 0x7FFF_FFFF, 0x7FFF_F708, "01 00"),
+    // from 0 where there is no range, never modulo 2^32
+    (0x8200, 0, 0, -10, "01 00"),
+    (0x8200, 0, 0, -1, "00 53 74 65 70 00"),
+    (0x0200, 0, 0, 0xFFFF_FFF6, "00 53 74 65 70 00"),
+    (0x0200, 0, 0, 0xFFFF_FFFF, "01 00"),
+];
+
 pub fn run(random: &Random, tally: &mut Tally) {
     for (stream, handed) in STREAMS {
         let stream = bytes(&stream.replace('*', &"00".repeat(258)));
@@ -147,6 +174,8 @@ pub fn run(random: &Random, tally: &mut Tally) {
     send_frames(tally);
     receive_frames(tally);
     serve_all(tally);
+    write_steps(tally);
+    each_code(tally);
     read_all(tally);
     find_all(tally);
     for (address, data, frame) in FRAMED {
@@ -270,5 +299,35 @@ fn serve_all(tally: &mut Tally) {
         input.host = 0;
         let seen = tally.compare(&input);
         tally.expect(seen.number == 9 && seen.lent.out[0] == 0x57, "57 where host functions are off", &input);
+    }
+}
+
+/// A value written to the one setting of a tree: the request, the number and the bytes of the reply behind it.
+fn write_step(tally: &mut Tally, range: (u16, i64, i64), value: i64, number: u8, behind: &str) {
+    let tree = tree_of(vec![setting(range, b"")]).form();
+    let request = [&[0xB4, 5, 1, 1, 0][..], &(value as u32).to_be_bytes()].concat();
+    let reply = if number == 1 { Vec::new() } else { [&request[..], &bytes(behind)].concat() };
+    let input = Input { tree: &tree, cells: &[0; 5], host: 1, bytes: &request, room: 256, ..Input::of(Call::ServeData) };
+    let seen = tally.compare(&input);
+    let same = seen.number == number && seen.fields[0] == reply.len() as u64 && seen.lent.out[..reply.len()] == reply;
+    tally.expect(same, "the step is the paper's", &input);
+}
+
+fn write_steps(tally: &mut Tally) {
+    for (format, min, max, value, behind) in STEPPED {
+        write_step(tally, (format, min, max), value, if behind == "01 00" { 0 } else { 13 }, behind);
+    }
+}
+
+/// Every code with the step that it means and a number below it; 12 to 15 mean none.
+fn each_code(tally: &mut Tally) {
+    for (code, step) in STEPS.into_iter().enumerate() {
+        write_step(tally, ((code as u16) << 8, 0, 0), step.into(), 0, "01 00");
+        for less in 1..step {
+            write_step(tally, ((code as u16) << 8, 0, 0), less.into(), 13, "00 53 74 65 70 00");
+        }
+    }
+    for code in 12..16 {
+        write_step(tally, (code << 8, 0, 0), 0, 1, "");
     }
 }

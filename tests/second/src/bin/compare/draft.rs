@@ -1,5 +1,7 @@
 //! Trees drawn at random, and broken in one rule each.
 use crate::random::Random;
+use crate::sheets::number_of;
+use crate::steps;
 use second::tree::{Node, Property, Tree};
 
 #[derive(Clone)]
@@ -50,7 +52,11 @@ fn options(random: &Random, count: usize) -> Vec<u8> {
     texts
 }
 
+/// Min and max; 0 and 0 now and then.
 fn range(random: &Random, signed: bool) -> (u32, u32) {
+    if random.once_in(8) {
+        return (0, 0);
+    }
     let ends = [0, 0, 1, 64, 0x7FFF_FFFF, 0x8000_0000, 0xFFFF_FFFF, 0xFFFF_FF00, random.word()];
     let (one, other) = (random.pick(&ends), random.pick(&ends));
     let ordered = if signed { one as i32 <= other as i32 } else { one <= other };
@@ -61,10 +67,17 @@ fn range(random: &Random, signed: bool) -> (u32, u32) {
     }
 }
 
+/// A format: of type 1 every step, 1 half the time; of type 2 every code, also those that mean no step.
+fn format(random: &Random, kind: u8) -> u16 {
+    let other = random.pick(&[0, 0x8000, 0x8002, 0x1080, random.word() as u16]) & 0xF0FF;
+    let code = random.below(if kind == 2 { 16 } else { 12 }) as u16;
+    other | random.pick(&[0, code << 8])
+}
+
 impl DraftProperty {
     pub fn draw(random: &Random, nodes: usize) -> DraftProperty {
         let kind = random.pick(&[1, 1, 2]);
-        let format = random.pick(&[0, 0x8000, 0x8002, 0x1080, random.word() as u16]);
+        let format = format(random, kind);
         let attribute = random.pick(&[0x2001, 0x2001, 3, 3, 3, 2, 1, 0]) | random.pick(&[0, 0x1010, 0xC000]);
         let (min, max) = match kind {
             1 => range(random, format & 0x8000 != 0),
@@ -163,6 +176,13 @@ impl Draft {
         path
     }
 
+    /// The path and the index of the property at a place, as requests have them.
+    pub fn target(&self, place: usize) -> Vec<u8> {
+        let mut target = self.path(usize::from(self.properties[place].node));
+        target.push(self.index(place));
+        target
+    }
+
     /// The index of the property at a place among those of its node.
     pub fn index(&self, place: usize) -> u8 {
         let node = self.properties[place].node;
@@ -177,27 +197,52 @@ impl Draft {
         .write()
     }
 
-    /// Cells that fit: any words, any marks of 0 or 1.
+    /// Cells that fit: any words, on their step or not, any marks of 0 or 1.
     pub fn cells(&self, random: &Random) -> Vec<u8> {
         let mut cells = Vec::new();
         for property in &self.properties {
-            let word = random.pick(&[property.min, property.max, 0, random.word()]);
+            let last = steps::to_step(property, number_of(property, property.max)) as u32;
+            let word = random.pick(&[property.min, last, 0, random.word()]);
             cells.extend(word.to_be_bytes());
             cells.push(random.pick(&[0, 1]));
         }
         cells
     }
 
-    /// A value to be written to a property, often at an end of its range.
+    /// A value to be written to a property, often at an end of its range or about its step.
     pub fn value(&self, random: &Random, place: usize) -> u32 {
         let property = &self.properties[place];
         let (min, max) = (property.min, property.max);
-        let near = [min, max, min.wrapping_sub(1), max.wrapping_add(1), min.wrapping_add(1), max.wrapping_sub(1)];
+        let ends = [min, max, min.wrapping_sub(1), max.wrapping_add(1), min.wrapping_add(1), max.wrapping_sub(1)];
         let others = [0, 1, 16, 0x7FFF_FFFF, 0x8000_0000, 0xFFFF_FFFF, 0x1010_1010, random.word()];
-        if random.once_in(2) {
-            random.pick(&near)
-        } else {
-            random.pick(&others)
+        match random.below(4) {
+            0 => random.pick(&ends),
+            1 => random.pick(&others),
+            _ => steps::near(random, property) as u32,
+        }
+    }
+}
+
+/// The sorts of properties, by read, write and live.
+#[derive(Clone, Copy, Debug, PartialEq)]
+pub enum Sort {
+    Live,
+    Setting,
+    Action,
+    ReadOnly,
+    Neither,
+}
+
+pub const SORTS: [Sort; 5] = [Sort::Live, Sort::Setting, Sort::Action, Sort::ReadOnly, Sort::Neither];
+
+impl Sort {
+    pub fn attribute(self) -> u16 {
+        match self {
+            Sort::Live => 0x2001,
+            Sort::Setting => 3,
+            Sort::Action => 2,
+            Sort::ReadOnly => 1,
+            Sort::Neither => 0,
         }
     }
 }
@@ -226,6 +271,8 @@ pub enum Break {
     ManyOptions,
     LiveWrite,
     LiveNoRead,
+    /// A step code of 12 to 15 in a type 1 property of this sort.
+    Step(Sort),
     LongOptions,
     LongUnit,
     PastForm,
@@ -240,13 +287,14 @@ pub enum Break {
     Mark,
 }
 
-pub const BREAKS: [Break; 33] = {
+pub const BREAKS: [Break; 38] = {
     use Break::*;
+    use Sort::*;
     [
         NoNode, ManyNodes, ManyProperties, DeviceParent, LateParent, Deep, NameCharacter, LabelCharacter, TextCharacter,
         LongName, LongLabel, NoSuchNode, Kind, Range, SignedRange, EnumeratedMin, EnumeratedMax, FewOptions, ManyOptions,
-        LiveWrite, LiveNoRead, LongOptions, LongUnit, PastForm, CutForm, NamePlace, LabelPlace, Counts, Short, CellShort,
-        CellMore, CellPart, Mark,
+        LiveWrite, LiveNoRead, Step(Live), Step(Setting), Step(Action), Step(ReadOnly), Step(Neither), LongOptions, LongUnit,
+        PastForm, CutForm, NamePlace, LabelPlace, Counts, Short, CellShort, CellMore, CellPart, Mark,
     ]
 };
 
@@ -332,10 +380,10 @@ fn break_numbers(random: &Random, property: &mut DraftProperty, nodes: usize, ru
     match rule {
         Break::NoSuchNode => property.node = random.pick(&[nodes as u8, 255]),
         Break::Kind => property.kind = random.pick(&[0, 3, 4, 255]),
-        Break::Range => property.standard(random.pick(&[0xFFFF_FFFF, 2, 0x8000_0000]), 1, random.pick(&[0, 0x7FFF])),
+        Break::Range => property.standard(random.pick(&[0xFFFF_FFFF, 2, 0x8000_0000]), 1, random.pick(&[0, 0x7BFF])),
         Break::SignedRange => {
             let (min, max) = random.pick(&[(0, 0xFFFF_FFFF), (1, 0), (0x7FFF_FFFF, 0x8000_0000)]);
-            property.standard(min, max, 0x8000);
+            property.standard(min, max, random.pick(&[0x8000, 0xFBFF]));
         }
         Break::EnumeratedMin => {
             property.enumerated(1, b"a\0b\0".to_vec());
@@ -348,6 +396,11 @@ fn break_numbers(random: &Random, property: &mut DraftProperty, nodes: usize, ru
         }
         Break::LiveWrite => property.attribute = random.pick(&[0x2003, 0x2002, 0xFFFF]),
         Break::LiveNoRead => property.attribute = random.pick(&[0x2000, 0xE000, 0xFFFC]),
+        Break::Step(sort) => {
+            let (min, max, format) = random.pick(&[(0, 0, 0), (1, 64, 0x70FF), (0, 0, 0x8002), (0xFFFF_FFF9, 7, 0xF0FF)]);
+            property.standard(min, max, format | (random.between(12, 15) as u16) << 8);
+            property.attribute = sort.attribute() | random.pick(&[0, 0x1010, 0xC000]);
+        }
         _ => {}
     }
 }

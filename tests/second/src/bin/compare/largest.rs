@@ -6,7 +6,7 @@ use crate::random::Random;
 use crate::requests::{content, wrapped};
 use crate::sweep::each_change;
 use crate::tally::Tally;
-use crate::trees::check;
+use crate::trees::{check, check_broken};
 use second::bench;
 use std::ops::Range;
 
@@ -58,15 +58,17 @@ fn draft((parent, node): Shape, turn: usize) -> Draft {
     }
 }
 
-/// A property whose range and label tell it from the others.
+/// A property whose range and label tell it from the others. Step codes go by turns, the last one's step being 200; of type 2 they
+/// go up to 15.
 fn property(place: u8, node: u8, turn: usize) -> DraftProperty {
     let turn = usize::from(place) + turn;
     let attribute = ATTRIBUTES[turn % ATTRIBUTES.len()];
     let label = format!("p{place}").into_bytes();
-    let (min, texts) = (u32::from(place), b"C\0".to_vec());
-    let mut property = DraftProperty { node, kind: 1, min, max: min + 1, attribute, format: 0, label, texts };
+    let (min, texts, format) = (u32::from(place), b"C\0".to_vec(), u16::from(place % 12) << 8);
+    let mut property = DraftProperty { node, kind: 1, min, max: min + 1, attribute, format, label, texts };
     if turn % 2 == 0 {
         property.enumerated(1, b"a\0b\0".to_vec());
+        property.format = u16::from(place % 16) << 8;
     }
     property
 }
@@ -176,7 +178,7 @@ fn break_all(random: &Random, tally: &mut Tally, draft: &Draft, places: Range<us
     for rule in BREAKS {
         for place in places.clone() {
             let (tree, cells) = broken_at(random, draft.clone(), rule, place % NODES, place);
-            check(tally, &tree, &cells, Some([1, u8::from(!rule.is_of_cells())]));
+            check_broken(tally, &tree, &cells, rule);
             give(tally, &tree, &cells);
         }
     }

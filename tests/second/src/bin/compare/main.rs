@@ -16,6 +16,8 @@ mod random;
 mod requests;
 mod sheet_sweep;
 mod sheets;
+mod step_sweep;
+mod steps;
 mod strays;
 mod streams;
 mod sums;
@@ -43,6 +45,7 @@ fn main() {
         largest::run(&random, &mut tally);
         listings::run(&mut tally);
         sheet_sweep::run(&random, &mut tally);
+        step_sweep::run(&random, &mut tally);
         buslink_sweep::run(&random, &mut tally);
     }
     for round in 0..(ROUNDS * times) as usize {

@@ -2,6 +2,7 @@
 use crate::draft::DraftProperty;
 use crate::random::Random;
 use crate::sheets::{is_setting, is_signed, range, read, read_as, Page};
+use crate::steps;
 use crate::tally::Tally;
 
 /// No numbers, for any setting.
@@ -143,15 +144,15 @@ pub fn number_of(property: &DraftProperty, number: i128) -> u8 {
     let (start, end) = (i128::from(*range(property).start()), i128::from(*range(property).end()));
     match number {
         _ if number < 0 && !is_signed(property) => 17,
-        _ if start <= number && number <= end => 0,
+        _ if start <= number && number <= end && steps::is_on_step(property, number as i64) => 0,
         _ => 18,
     }
 }
 
-/// A number near the ends of a range, or that would be in it where high bits were lost.
+/// A number near the ends of a range or near its step, or that would be there where high bits were lost.
 fn near(random: &Random, property: &DraftProperty) -> i128 {
     let (start, end) = (i128::from(*range(property).start()), i128::from(*range(property).end()));
-    let limit = random.pick(&[start, end, 0, -(1 << 31), 1 << 31, 1 << 32]);
+    let limit = random.pick(&[start, end, 0, -(1 << 31), 1 << 31, 1 << 32, steps::near(random, property).into()]);
     let beyond: i128 = random.pick(&[0_i128, 0, 1, -1, 2, 10]) << random.pick(&[31, 32, 33, 63, 64, 96]);
     limit + random.pick(&[-1, 0, 1]) + beyond
 }

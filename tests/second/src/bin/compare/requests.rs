@@ -12,6 +12,32 @@ pub enum Transport {
     Udp,
 }
 
+pub const TRANSPORTS: [Transport; 3] = [Transport::Data, Transport::Serial, Transport::Udp];
+
+pub fn transport(random: &Random) -> Transport {
+    random.pick(&TRANSPORTS)
+}
+
+impl Transport {
+    /// The call that serves what comes by it, and the least room that this call asks for.
+    pub fn call(self) -> (Call, usize) {
+        match self {
+            Transport::Data => (Call::ServeData, 256),
+            Transport::Serial => (Call::ServeSerial, 520),
+            Transport::Udp => (Call::ServeUdp, 260),
+        }
+    }
+
+    /// Data as it comes and goes, for a box of this address.
+    pub fn carry(self, data: &[u8], address: u8) -> Vec<u8> {
+        match self {
+            Transport::Data => data.to_vec(),
+            Transport::Serial => wrapped(&content(address, data)),
+            Transport::Udp => [&[0; 4], data].concat(),
+        }
+    }
+}
+
 pub fn run(random: &Random, tally: &mut Tally) {
     let draft = Draft::of(&second::bench::tree());
     for _ in 0..60 {
@@ -96,8 +122,7 @@ fn good_data(random: &Random, draft: &Draft) -> Vec<u8> {
         data.push(1);
     } else {
         let place = random.below(draft.properties.len());
-        data.extend(draft.path(usize::from(draft.properties[place].node)));
-        data.push(draft.index(place));
+        data.extend(draft.target(place));
         value = draft.value(random, place);
     }
     if op >= 4 {

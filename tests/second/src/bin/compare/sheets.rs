@@ -3,6 +3,7 @@ use crate::draft::{broken, Draft, DraftProperty, BREAKS};
 use crate::input::{Call, Input, Lent, Seen};
 use crate::mistakes;
 use crate::random::Random;
+use crate::steps;
 use crate::tally::Tally;
 use second::{sheet, SHEET_ROOM};
 use std::ops::RangeInclusive;
@@ -15,12 +16,12 @@ const LABELS: [&[u8]; 20] = [
 
 const SIGNED: u16 = 0x8000;
 
-/// Format, min and max of settings of type 1.
-pub const RANGES: [(u16, i64, i64); 16] = [
+/// Format, min and max of settings of type 1: in steps of 1, and the last eight in others.
+pub const RANGES: [(u16, i64, i64); 24] = [
     (0, 0, 0),
-    (0x7FFF, 0, 0),
+    (0x70FF, 0, 0),
     (SIGNED, 0, 0),
-    (0xFFFF, 0, 0),
+    (0xF0FF, 0, 0),
     (0, 1, 64),
     (SIGNED, 1, 64),
     (SIGNED, -40, 125),
@@ -33,6 +34,14 @@ pub const RANGES: [(u16, i64, i64); 16] = [
     (0, 10, 99),
     (0, 0, 0xFFFF_FFFF),
     (0, 0x8000_0000, 0xFFFF_FFFF),
+    (0x7BFF, 0, 0),
+    (0xFBFF, 0, 0),
+    (0x8200, 0, 0),
+    (0x8200, -7, 7),
+    (0x0200, 1, 64),
+    (0x8400, -40, 125),
+    (0x8800, -0x8000_0000, 0x7FFF_FFFF),
+    (0x0A00, 1, 0xFFFF_FFFF),
 ];
 
 /// Numbers at which the count of digits changes, and others.
@@ -67,16 +76,17 @@ pub fn number_of(property: &DraftProperty, word: u32) -> i64 {
     }
 }
 
-/// A number in the range of a setting.
+/// A number in the range of a setting and on its step.
 fn number(random: &Random, property: &DraftProperty) -> i64 {
     let range = range(property);
     let telling = random.pick(&TELLING);
-    match random.below(4) {
+    let number = match random.below(4) {
         0 => *range.start(),
         1 => *range.end(),
         2 if range.contains(&telling) => telling,
-        _ => range.start() + (random.next() % (range.end() - range.start() + 1) as u64) as i64,
-    }
+        _ => steps::any(random, property),
+    };
+    steps::to_step(property, number)
 }
 
 pub fn setting((format, min, max): (u16, i64, i64), label: &[u8]) -> DraftProperty {
@@ -223,6 +233,13 @@ pub fn read_as(tally: &mut Tally, tree: &[u8], cells: &[u8], bytes: &[u8], numbe
     tally.expect(seen.number == number, &format!("reading the sheet gives {number}"), &input);
 }
 
+/// Writing gives this number, with room for every sheet.
+pub fn write_as(tally: &mut Tally, tree: &[u8], cells: &[u8], number: u8) {
+    let input = Input { tree, cells, room: SHEET_ROOM, ..Input::of(Call::WriteSheet) };
+    let seen = tally.compare(&input);
+    tally.expect(seen.number == number, &format!("writing the sheet gives {number}"), &input);
+}
+
 /// For any tree and cells, mostly broken ones: written, and its sheet or another one read.
 pub fn near(tally: &mut Tally, tree: &[u8], cells: &[u8]) {
     let mut out = [0; SHEET_ROOM];
@@ -236,6 +253,7 @@ pub fn run(random: &Random, tally: &mut Tally, round: usize) {
     write_all(random, tally, &page);
     restore(random, tally, &page);
     mistakes::run(random, tally, &page);
+    steps::run(random, tally, &page);
     spoil_word(random, tally, &page);
     let spoilt = spoil_label(random, tally, &page);
     break_one(random, tally, &page, round);
@@ -275,7 +293,7 @@ fn restore(random: &Random, tally: &mut Tally, page: &Page) {
     }
 }
 
-/// A word that lies outside its range, in one setting of those that have such.
+/// A word that lies outside its range or off its step, in one setting of those that have such.
 fn spoil_word(random: &Random, tally: &mut Tally, page: &Page) {
     let settings = page.settings();
     if settings.is_empty() {
@@ -283,9 +301,10 @@ fn spoil_word(random: &Random, tally: &mut Tally, page: &Page) {
     }
     let (place, property) = random.pick(&settings);
     let (start, end) = (*range(property).start() as u32, *range(property).end() as u32);
-    let words = [start.wrapping_sub(1), end.wrapping_add(1), 0, 0x8000_0000, random.word()];
+    let words = [start.wrapping_sub(1), end.wrapping_add(1), 0, 0x8000_0000, random.word(), steps::near(random, property) as u32];
     let mut cells = page.cells(random);
-    for word in words.into_iter().filter(|word| !range(property).contains(&number_of(property, *word))) {
+    let refused = |word: &u32| mistakes::number_of(property, number_of(property, *word).into()) != 0;
+    for word in words.into_iter().filter(refused) {
         cells[5 * place..5 * place + 4].copy_from_slice(&word.to_be_bytes());
         write_refused(random, tally, &page.tree, &cells, 18);
         read_as(tally, &page.tree, &cells, &page.sheet, 0);

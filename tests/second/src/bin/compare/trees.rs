@@ -1,12 +1,12 @@
 //! Trees and cells: checked, listed, posted to, read, restored, their sheets and frames, and requests served over them.
 use crate::buslink;
-use crate::draft::{broken, Draft, BREAKS};
+use crate::draft::{broken, Break, Draft, BREAKS};
 use crate::input::{Call, Input};
 use crate::listings;
 use crate::random::Random;
-use crate::requests::{self, Transport};
+use crate::requests;
 use crate::sheets;
-use crate::tally::Tally;
+use crate::tally::{Reason, Tally};
 
 const SERVED: usize = 120;
 
@@ -42,6 +42,14 @@ pub fn check(tally: &mut Tally, tree: &[u8], cells: &[u8], numbers: Option<[u8; 
     buslink::near(tally, tree, cells);
 }
 
+/// The same for a tree or cells that break a rule: 1.
+pub fn check_broken(tally: &mut Tally, tree: &[u8], cells: &[u8], rule: Break) {
+    check(tally, tree, cells, Some([1, u8::from(!rule.is_of_cells())]));
+    if let Break::Step(sort) = rule {
+        tally.meet(Some(Reason::Code(sort)));
+    }
+}
+
 fn begin(random: &Random, tally: &mut Tally, tree: &[u8], properties: usize) {
     let wrong = random.pick(&[5 * properties + 5, 5 * properties + 1, (5 * properties).saturating_sub(1), 0]);
     let len = random.pick(&[5 * properties, 5 * properties, wrong]);
@@ -51,14 +59,10 @@ fn begin(random: &Random, tally: &mut Tally, tree: &[u8], properties: usize) {
 
 /// Serves one request by a drawn transport; the cells go on to the next.
 fn serve(random: &Random, tally: &mut Tally, draft: &Draft, tree: &[u8], cells: &mut Vec<u8>) {
-    let transport = random.pick(&[Transport::Data, Transport::Serial, Transport::Udp]);
+    let transport = requests::transport(random);
     let address = requests::address(random);
     let bytes = requests::draw(random, draft, transport, address);
-    let (call, least) = match transport {
-        Transport::Data => (Call::ServeData, 256),
-        Transport::Serial => (Call::ServeSerial, 520),
-        Transport::Udp => (Call::ServeUdp, 260),
-    };
+    let (call, least) = transport.call();
     let mut input = Input { tree, cells, bytes: &bytes, address, ..Input::of(call) };
     input.host = random.pick(&[0, 1, 1, 1, 1, 1, 2, 255]);
     input.room = random.room(least);
@@ -103,7 +107,7 @@ fn break_one(random: &Random, tally: &mut Tally, draft: &Draft, round: usize) {
     for turn in 0..4 {
         let rule = BREAKS[(4 * round + turn) % BREAKS.len()];
         let (tree, cells) = broken(random, draft, rule);
-        check(tally, &tree, &cells, Some([1, u8::from(!rule.is_of_cells())]));
+        check_broken(tally, &tree, &cells, rule);
         give_all(random, tally, draft, &tree, &cells);
     }
 }
