@@ -95,6 +95,44 @@ asked-58 : (k : Call) → AsksOpenProbe k
 asked-58 k a =
     open-probe (treeIn k) (cellsIn (k .cells)) (k .string .payload) (a .request) (a .place) (a .asks) (a .reads) (a .finds) (a .live) (a .not-ready)
 
+-- With host functions on a write is answered by its outcome.
+pub written-on : (k : Call) → k .host ≡ true → (r : Request) (place : ℕ) → WritesTo k r place
+    → answerTo k ≡ onWrite (cellsIn (k .cells)) place r (outcomeIn k r place)
+written-on k on r place w =
+    ap (λ b. answer (treeIn k) (cellsIn (k .cells)) b (k .string .payload)) on
+    ∙ write-answered (treeIn k) (cellsIn (k .cells)) (k .string .payload) r place w
+
+-- A call that answers with 0, by whatever transport: it gives the answer, host functions are on, and a write is answered by its outcome.
+module _ (k : Call) {out cells′ out′ : List ℕ} {n size action : ℕ} (h : Serves (serving k) out n size action cells′ out′) (d : n ≡ done) where
+  pub done-answered : n ≡ answerTo k .number
+  done-answered = go (isLent (k .tree) (k .cells)) (ltb (k .room) (k .least)) (eqb (k .string .number) done) refl refl refl
+    where
+      go : (a b c : Bool) → isLent (k .tree) (k .cells) ≡ a → ltb (k .room) (k .least) ≡ b → eqb (k .string .number) done ≡ c
+          → n ≡ answerTo k .number
+      go true true c p q e = absurd (omega (arith, d, h .number ∙ ap (λ x. x .number) (serve-by k true true c p q e)))
+      go true false true p q e = h .number ∙ ap (λ x. x .number) (serve-by k true false true p q e)
+      go true false false p q e =
+          absurd (eqb-false (k .string .number) done e (sym (h .number ∙ ap (λ x. x .number) (serve-by k true false false p q e)) ∙ d))
+      go false b c p q e = absurd (omega (arith, d, h .number ∙ ap (λ x. x .number) (serve-by k false b c p q e)))
+
+  done-enabled : k .host ≡ true
+  done-enabled = go (k .host) refl
+    where
+      go : (b : Bool) → k .host ≡ b → k .host ≡ true
+      go true e = e
+      go false e =
+          absurd (omega (
+            arith,
+            d,
+            done-answered
+                ∙ ap (λ b. answer (treeIn k) (cellsIn (k .cells)) b (k .string .payload) .number) e
+                ∙ ap (λ a. a .number) (host-off (treeIn k) (cellsIn (k .cells)) (k .string .payload)),
+          ))
+
+  pub done-written : (r : Request) (place : ℕ) → WritesTo k r place
+      → answerTo k ≡ onWrite (cellsIn (k .cells)) place r (outcomeIn k r place)
+  done-written r place w = written-on k done-enabled r place w
+
 module _ (k : Call) (transport : Transport k) {out cells′ out′ : List ℕ} {n size action : ℕ}
     (h : Serves (serving k) out n size action cells′ out′)
   where
@@ -195,18 +233,12 @@ module _ (k : Call) (transport : Transport k) {out cells′ out′ : List ℕ} {
         ap (λ x. cellIn x place) (cells-after all s ∙ ap (λ b. answer t cs b bs .cells) on)
         ∙ write-holds t cs bs place value (cells-sound-in (k .tree) (k .cells) all (s .lent)) w
 
-    host-on : Served → n ≡ done → k .host ≡ true
-    host-on s d = by-host (λ e. e) (λ e. absurd (omega (arith, d, code-given s false disabled DISABLED e (host-off t cs bs) .0)))
-
-    write-given : Served → n ≡ done → (r : Request) (place : ℕ) → WritesTo k r place → answerTo k ≡ onWrite cs place r (outcomeIn k r place)
-    write-given s d r place w = ap (λ b. answer t cs b bs) (host-on s d) ∙ write-answered t cs bs r place w
-
     save-given : Served → n ≡ done → (r : Request) (place save : ℕ) → WritesTo k r place → take size out′ ≡ k .form (acceptedReply r save)
         → saveByte (outcomeIn k r place) ≡ save
     unfolding onWrite
     save-given s d r place save w e =
         save-byte (outcomeIn k r place) r save
-        (ap (λ a. a .reply) (sym (write-given s d r place w)) ∙ replied s (acceptedReply r save) e)
+        (ap (λ a. a .reply) (sym (done-written k h d r place w)) ∙ replied s (acceptedReply r save) e)
 
     kept : Kept k out n size action cells′ out′
     unfolding onWrite actionOf cellsAfter
@@ -235,21 +267,21 @@ module _ (k : Call) (transport : Transport k) {out cells′ out′ : List ℕ} {
           save-bytes = λ d r place w. handled
               (λ x. absurd (omega arith))
               (λ s.
-              let is : answerTo k ≡ onWrite cs place r (outcomeIn k r place) = write-given s d r place w in
+              let is : answerTo k ≡ onWrite cs place r (outcomeIn k r place) = done-written k h d r place w in
               accepted-reply (k .form) (outcomeIn k r place) r (sym (ap (λ a. a .number) is) ∙ sym (s .gives .number) ∙ d)
               (sent s ∙ ap (λ a. k .form (a .reply)) is));
           save-01 = λ all d r place w e. handled
               (λ x. absurd (omega arith))
               (λ s.
               let is : outcomeIn k r place ≡ saved = save-saved (outcomeIn k r place) (save-given s d r place saveDone w e) in (
-                saved-cell all s (host-on s d) place (r .value) (record { request = r; writes = w; saves = is; sent = refl }),
-                s .gives .acts ∙ ap (λ a. actionNumber (a .action)) (write-given s d r place w ∙ ap (onWrite cs place r) is),
+                saved-cell all s (done-enabled k h d) place (r .value) (record { request = r; writes = w; saves = is; sent = refl }),
+                s .gives .acts ∙ ap (λ a. actionNumber (a .action)) (done-written k h d r place w ∙ ap (onWrite cs place r) is),
               ));
           save-02 = λ d r place w e. handled
               (λ x. absurd (omega arith))
               (λ s.
               let is : outcomeIn k r place ≡ taken = save-taken (outcomeIn k r place) (save-given s d r place saveNone w e) in
-              let a : answerTo k ≡ onWrite cs place r taken = write-given s d r place w ∙ ap (onWrite cs place r) is in
+              let a : answerTo k ≡ onWrite cs place r taken = done-written k h d r place w ∙ ap (onWrite cs place r) is in
               (unchanged s (ap (λ x. x .cells) a), s .gives .acts ∙ ap (λ x. actionNumber (x .action)) a));
           open-probes = λ a. handled
               (λ r. (λ z. omega (arith, z), inl (r .same-output)))

@@ -5,32 +5,32 @@ use native.Mathlib.Omega.{arith}
 use mathlib.Core.Path.{_≡_, refl, sym, ap, subst, _∙_}
 use mathlib.Core.Bool.{Bool, true, false, cond, not, _&&_, and-true, false≢true}
 use mathlib.Core.List.{List}
-use borrow.Author.Tests.{eqb-true, eqb-false}
+use borrow.Author.Tests.{eqb-true}
 use lib.ListN.{length}
-use lib.Dec.{eqb, ltb, leb}
+use lib.Dec.{eqb, leb}
 use Rattle.protocol.specs.Numbers.{done, notSaved, standard, enumeration, maxProperties, lastStepCode}
 use Rattle.protocol.specs.Bytes.{Bytes, every, atMost}
 use Rattle.protocol.specs.Buffer.{over}
 use Rattle.protocol.specs.Request.{Request}
 use Rattle.protocol.specs.Tree.{Property, Tree, Cell, canRead, canWrite, isSigned, stepCode, propertyIn, cellIn, standardSound, enumerationSound, kindSound, propertySound, nodesSound, propertiesSound, sound}
 use Rattle.protocol.specs.Step.{onStep}
-use Rattle.protocol.specs.Answer.{inRange, Outcome, saved, taken, readOnly, outOfRange, offStep, outcome, writeNumber, cellsAfter, writeReply, onWrite, answer}
+use Rattle.protocol.specs.Answer.{inRange, Outcome, saved, taken, readOnly, outOfRange, offStep, outcome, writeNumber, cellsAfter, writeReply, onWrite}
 use Rattle.protocol.specs.Sheet.{isSetting, mayHold, inRanges}
 use Rattle.protocol.proofs.TestLaws.{and-left, and-right, and-both, every-at, every-same}
-use Rattle.protocol.proofs.RuleLaws.{host-off}
 use Rattle.protocol.proofs.StepLaws.{step-one}
 use Rattle.protocol.proofs.OutcomeLaws.{saved-exact, taken-exact, off-step-exact}
-use Rattle.protocol.proofs.AnswerLaws.{write-answered, same-answers}
+use Rattle.protocol.proofs.AnswerLaws.{same-answers}
 use Rattle.protocol.proofs.LoadLaws.{ranges-hold}
 use Rattle.tree.specs.Seen.{seen}
 use Rattle.cells.specs.Cells.{cellsForm, cellsIn}
 use Rattle.cells.specs.Lent.{isLent}
 use Rattle.cells.proofs.CellLaws.{lent-form}
 use Rattle.answer.specs.Serve.{Call, Open, Service, inForm, serving, Serves}
-use Rattle.answer.proofs.ServeLaws.{answerTo, serve-by, serve-good}
+use Rattle.answer.proofs.ServeLaws.{answerTo, serve-good}
 use Rattle.demands.specs.Serving.{treeIn, WritesTo}
 use Rattle.demands.specs.Sheets.{ReadsSheet}
 use Rattle.demands.specs.StepSize.{target, Allowed, StepServed, kindSound01, propertySound01, sound01, outcome01, isByOne, AsBefore, StepsKeep}
+use Rattle.demands.proofs.Serving.{written-on, done-answered, done-written}
 use Rattle.demands.proofs.Sheets.{sheets-keep}
 
 -- What is saved in a setting is in range and on its step.
@@ -53,11 +53,6 @@ module _ (k : Call) {out cells′ out′ : List ℕ} {n size action : ℕ} (h : 
   abbrev Given : Service → Type 0
   Given what = Serves what out n size action cells′ out′
 
-  written : (r : Request) (place : ℕ) → WritesTo k r place → k .host ≡ true
-      → answerTo k ≡ onWrite cs place r (outcome (target k place) (r .value))
-  written r place w on =
-      ap (λ b. answer (treeIn k) cs b (k .string .payload)) on ∙ write-answered (treeIn k) cs (k .string .payload) r place w
-
   -- Off its step.
   module _ (o : Open k) (good : k .string .number ≡ done) (on : k .host ≡ true) (r : Request) (place : ℕ) (w : WritesTo k r place)
       (s : isSetting (target k place) ≡ true) (within : inRange (target k place) (r .value) ≡ true) (off : onStep (target k place) (r .value) ≡ false)
@@ -67,7 +62,7 @@ module _ (k : Call) {out cells′ out′ : List ℕ} {n size action : ℕ} (h : 
 
       is : answerTo k ≡ onWrite cs place r offStep
       is =
-          written r place w on
+          written-on k on r place w
           ∙ ap (onWrite cs place r)
           (off-step-exact (target k place) (r .value) .1
           (and-both (and-right (canRead (target k place)) _ s)
@@ -83,37 +78,12 @@ module _ (k : Call) {out cells′ out′ : List ℕ} {n size action : ℕ} (h : 
         ),
       )
 
-  -- Answered with 0: the call gave the answer, and host functions are on.
-  module _ (d : n ≡ done) where
-    answers : n ≡ answerTo k .number
-    answers =
-        go (isLent (k .tree) (k .cells)) (ltb (k .room) (k .least)) (eqb (k .string .number) done) refl refl refl
-      where
-        go : (a b c : Bool) → isLent (k .tree) (k .cells) ≡ a → ltb (k .room) (k .least) ≡ b → eqb (k .string .number) done ≡ c
-            → n ≡ answerTo k .number
-        go true true c p q e = absurd (omega (arith, d, h .number ∙ ap (λ x. x .number) (serve-by k true true c p q e)))
-        go true false true p q e = h .number ∙ ap (λ x. x .number) (serve-by k true false true p q e)
-        go true false false p q e =
-            absurd (eqb-false (k .string .number) done e (sym (h .number ∙ ap (λ x. x .number) (serve-by k true false false p q e)) ∙ d))
-        go false b c p q e = absurd (omega (arith, d, h .number ∙ ap (λ x. x .number) (serve-by k false b c p q e)))
-
-    enabled : k .host ≡ true
-    enabled = go (k .host) refl
-      where
-        go : (b : Bool) → k .host ≡ b → k .host ≡ true
-        go true e = e
-        go false e =
-            absurd (omega (
-              arith,
-              d,
-              answers ∙ ap (λ b. answer (treeIn k) cs b (k .string .payload) .number) e ∙ ap (λ a. a .number) (host-off (treeIn k) cs (k .string .payload)),
-            ))
-
-    allowed : (r : Request) (place : ℕ) → WritesTo k r place → isSetting (target k place) ≡ true → Allowed (target k place) (r .value)
-    unfolding onWrite
-    allowed r place w s =
-        saved-allowed (target k place) (r .value) s (outcome (target k place) (r .value)) refl
-        (sym (answers ∙ ap (λ a. a .number) (written r place w enabled)) ∙ d)
+  -- Answered with 0.
+  allowed : n ≡ done → (r : Request) (place : ℕ) → WritesTo k r place → isSetting (target k place) ≡ true → Allowed (target k place) (r .value)
+  unfolding onWrite
+  allowed d r place w s =
+      saved-allowed (target k place) (r .value) s (outcome (target k place) (r .value)) refl
+      (sym (done-answered k h d ∙ ap (λ a. a .number) (done-written k h d r place w)) ∙ d)
 
   step-served : StepServed k out n cells′ out′
   step-served = record { off-step = refused; accepted = allowed }
