@@ -78,18 +78,43 @@ static void act(uint8_t place)
         fprintf(stderr, "restart\n");
 }
 
+/* A message with some numbers of a request's path, dotted. */
+static void tell(const char *what, const uint8_t *path, size_t len)
+{
+    fprintf(stderr, "%s", what);
+    for (size_t i = 0; i < len; i++)
+        fprintf(stderr, "%c%u", i == 0 ? ' ' : '.', (unsigned)path[i]);
+    fprintf(stderr, "\n");
+}
+
+/* Why a host got 54, for the installer beside the box. Request data is B4, the op, the path and the index; ops 4 and 5 have a zero
+ * and four bytes of value behind it. */
+static void explain(uint8_t number, const uint8_t *data, size_t data_len, uint8_t missing)
+{
+    size_t behind = data_len > 1 && data[1] > 3 ? 5 : 0;
+
+    if (number == PQ_BAD_PARAMETER)
+        tell("not a request", data, 0);
+    if (number == PQ_NO_SUCH_NODE)
+        tell("no node", data + 2, missing);
+    if (number == PQ_NO_SUCH_PROPERTY)
+        tell("no property", data + 2, data_len - 2 - behind);
+}
+
 /* The data of a good frame: answered, and the reply framed. Each step has its own buffer. */
 static void answer(const uint8_t *data, size_t data_len)
 {
     static uint8_t reply[PQ_ROOM_DATA], string[PQ_ROOM_SERIAL];
     size_t reply_len, string_len;
-    uint8_t action;
+    uint8_t action, missing;
+    uint8_t number = pq_serve_data(tree, sizeof tree, cells, sizeof cells, HOST_ON, data, data_len, reply, sizeof reply, &reply_len,
+        &action, &missing);
 
-    pq_serve_data(tree, sizeof tree, cells, sizeof cells, HOST_ON, data, data_len, reply, sizeof reply, &reply_len, &action);
     if (reply_len > 0 && pq_frame(ADDRESS, reply, reply_len, string, sizeof string, &string_len) == PQ_DONE)
         send(string, string_len);
     if (action != PQ_NO_ACTION)
         act(action);
+    explain(number, data, data_len, missing);
 }
 
 static void serve_line(void)

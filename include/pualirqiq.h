@@ -25,9 +25,9 @@
  *   tree too: the library has no data of its own.
  * - Refusals. Every number but 0 and 255 is one. It leaves cells, state, records and outputs as they were; lengths, offsets and
  *   counts that are handed back are 0, and so are an identifier and a mask of usable indicators; the action is PQ_NO_ACTION; what
- *   is read out of something (a word, the fields of a request, an indicator) is left as it was. Three exceptions: the serving
- *   calls write a reply with 9 to 13, pq_feed takes the bytes of a frame that it refuses, and pq_list and pq_write_sheet tell with
- *   8 how much room they need.
+ *   is read out of something (a word, the fields of a request, an indicator) is left as it was. Four exceptions: the serving calls
+ *   write a reply with 9 to 13, 15 and 16, and tell with 15 which part of the path no node has; pq_feed takes the bytes of a frame
+ *   that it refuses; and pq_list and pq_write_sheet tell with 8 how much room they need.
  * - Numbers. Those that a call may return stand with it, in the order in which they are tested.
  */
 #ifndef PUALIRQIQ_H
@@ -38,8 +38,9 @@
 
 /* Grows when the interface changes. 1: with pq_word and pq_is_ready. 2: pq_reading and pq_restore_cells in their place.
  * 3: pq_list. 4: pq_feed passes over stray 10h. 5: pq_write_sheet and pq_read_sheet. 6: Buslink. 7: steps; a tree with a step code
- * of 12 to 15 in type 1 is no longer sound. */
-#define PQ_VERSION 7
+ * of 12 to 15 in type 1 is no longer sound. 8: 15 and 16 in place of 11 where there is no such node or property, in the serving calls
+ * and pq_reading; the serving calls have *missing. */
+#define PQ_VERSION 8
 
 /* In C, an array of at least so many elements: compilers warn of a shorter one. */
 #if defined(__STDC_VERSION__) && __STDC_VERSION__ >= 199901L && !defined(__cplusplus)
@@ -66,30 +67,32 @@ enum {
     PQ_ROOM_BUSLINK = 8   /* the data of a Buslink frame, and the least room for it */
 };
 
-/* Numbers returned (document 01; 17 and 18: document 02, section 3; 19 and 20: section 5). Steps: section 6. */
+/* Numbers returned (document 01; 15 and 16: document 02, section 7; 17 and 18: section 3; 19 and 20: section 5). Steps: section 6. */
 enum {
     PQ_DONE = 0,
-    PQ_UNSOUND = 1,          /* tree, cells, state or records have no sound form, or do not fit each other */
-    PQ_NO_PREAMBLE = 2,      /* a string does not begin with 10 02, or a datagram not with four zeros */
-    PQ_BAD_PAIR = 3,         /* a wrong byte behind a 10h, or a string does not end with its first 10 03 */
-    PQ_TOO_SHORT = 4,        /* no data */
-    PQ_TOO_LONG = 5,         /* more than 256 bytes of data */
+    PQ_UNSOUND = 1,           /* tree, cells, state or records have no sound form, or do not fit each other */
+    PQ_NO_PREAMBLE = 2,       /* a string does not begin with 10 02, or a datagram not with four zeros */
+    PQ_BAD_PAIR = 3,          /* a wrong byte behind a 10h, or a string does not end with its first 10 03 */
+    PQ_TOO_SHORT = 4,         /* no data */
+    PQ_TOO_LONG = 5,          /* more than 256 bytes of data */
     PQ_BAD_CHECKSUM = 6,
     PQ_OTHER_ADDRESS = 7,
-    PQ_NO_ROOM = 8,          /* the output is shorter than its least room, whatever would be put there; pq_list and pq_write_sheet:
-                                than the listing or sheet */
-    PQ_DISABLED = 9,         /* host functions are off */
-    PQ_UNKNOWN_COMMAND = 10, /* not B4, or an op above 5 */
-    PQ_BAD_PARAMETER = 11,   /* not what the op asks for; no such node or property */
-    PQ_NO_READING = 12,      /* no read attribute, or live and not ready */
-    PQ_NOT_SAVED = 13,       /* a write without write attribute, out of range, or off its step */
-    PQ_NOT_LIVE = 14,        /* a posting to a property that does not exist or is not live */
-    PQ_BAD_SHEET = 17,       /* no sheet of this tree, or labels of settings that cannot be written */
-    PQ_NOT_IN_RANGE = 18,    /* a number on a sheet, or a word to be written there, is out of range or of 32 bits, or off its
-                                step */
-    PQ_BAD_IDENTIFIER = 19,  /* Buslink: no such station, type or indicator; received, not the station's identifier */
-    PQ_BAD_LENGTH = 20,      /* Buslink: a frame of the station with not 8 bytes of data */
-    PQ_NO_FRAME = 255        /* pq_feed: all bytes were taken and no frame ended; no refusal */
+    PQ_NO_ROOM = 8,           /* the output is shorter than its least room, whatever would be put there; pq_list and pq_write_sheet:
+                                 than the listing or sheet */
+    PQ_DISABLED = 9,          /* host functions are off */
+    PQ_UNKNOWN_COMMAND = 10,  /* not B4, or an op above 5 */
+    PQ_BAD_PARAMETER = 11,    /* not of the shape that the op asks for */
+    PQ_NO_READING = 12,       /* no read attribute, or live and not ready */
+    PQ_NOT_SAVED = 13,        /* a write without write attribute, out of range, or off its step */
+    PQ_NOT_LIVE = 14,         /* a posting to a property that does not exist or is not live */
+    PQ_NO_SUCH_NODE = 15,     /* no node has the path */
+    PQ_NO_SUCH_PROPERTY = 16, /* a node has the path, and no property with the index; no property at a place */
+    PQ_BAD_SHEET = 17,        /* no sheet of this tree, or labels of settings that cannot be written */
+    PQ_NOT_IN_RANGE = 18,     /* a number on a sheet, or a word to be written there, is out of range or of 32 bits, or off its
+                                 step */
+    PQ_BAD_IDENTIFIER = 19,   /* Buslink: no such station, type or indicator; received, not the station's identifier */
+    PQ_BAD_LENGTH = 20,       /* Buslink: a frame of the station with not 8 bytes of data */
+    PQ_NO_FRAME = 255         /* pq_feed: all bytes were taken and no frame ended; no refusal */
 };
 
 /* In *action: no action is to be taken. */
@@ -165,7 +168,7 @@ uint8_t pq_post(const uint8_t *tree, size_t tree_len, uint8_t *cells, size_t cel
     uint8_t ready);
 
 /* The word of the property at a place, for the firmware's own use: the one that a host would read.
- * 1: as pq_check. 11: no property at that place. 12: it has no read attribute, or is live and not ready. 0: *word is its word.
+ * 1: as pq_check. 16: no property at that place. 12: it has no read attribute, or is live and not ready. 0: *word is its word.
  * With any other number *word is left as it was. */
 uint8_t pq_reading(const uint8_t *tree, size_t tree_len, const uint8_t *cells, size_t cells_len, size_t place,
     uint32_t *word);
@@ -209,13 +212,19 @@ uint8_t pq_read_sheet(const uint8_t *tree, size_t tree_len, uint8_t *cells, size
  * of out: a reply is to be sent exactly where it is not 0.
  *
  *   1 to 8           *len is 0; nothing is written
- *   9, 10, 11, 12    the reply is the one byte 57, 59, 54, 58 (hex); no cell is changed
+ *   9, 10, 12        the reply is the one byte 57, 59, 58 (hex); no cell is changed
+ *   11, 15, 16       the reply is the one byte 54; no cell is changed. A host is not told which of the three it was
  *   13               the reply to a write, with save 00 and for op 5 the reason, "Read only", "Range" or "Step", tested in that
  *                    order; no cell is changed
  *   0                the reply; an accepted write is in the cells
  *
  * *action is PQ_NO_ACTION, but for 0 with a write to an action: then it is that property's place, and no cell is changed. An
  * action takes any value.
+ *
+ * *missing is for a message to an installer who sees 54. With 15 it is the length of the shortest front part of the path that no node
+ * has, 1 to 16: where the box has 1.2 and not 1.2.7, it is 3 for 1.2.7.1, and it is 1 for every path that does not begin with 1. The
+ * path begins with the third byte of the request's data; pq_read_serial and pq_read_udp read it out of a string or datagram. With
+ * every other number *missing is 0.
  *
  * Steps. Format bits 11 to 8 of a property of type 1 are its step code: 0 to 11 for 1, 2, 5, 10, 20, 50, 100, 200, 500, 1000,
  * 2000 and 5000. A value in range is saved in a setting where its distance from min (from 0 where min and max are both 0) is a
@@ -224,19 +233,19 @@ uint8_t pq_read_sheet(const uint8_t *tree, size_t tree_len, uint8_t *cells, size
  * written, and for each number on a sheet. */
 
 /* Request data, as pq_feed hands it up. The reply is data too, for pq_frame. out must not be the request's buffer.
- * 1: as pq_check. 8: out_len is under PQ_ROOM_DATA. 4: no data. 5: more than 256 bytes. 9, 10, 11, 12, 13. 0. */
+ * 1: as pq_check. 8: out_len is under PQ_ROOM_DATA. 4: no data. 5: more than 256 bytes. 9, 10, 11, 15, 16, 12, 13. 0. */
 uint8_t pq_serve_data(const uint8_t *tree, size_t tree_len, uint8_t *cells, size_t cells_len, uint8_t host,
-    const uint8_t *request, size_t request_len, uint8_t *out, size_t out_len, size_t *len, uint8_t *action);
+    const uint8_t *request, size_t request_len, uint8_t *out, size_t out_len, size_t *len, uint8_t *action, uint8_t *missing);
 
 /* A whole serial string for the box's address, which the reply, a frame, carries too. out must not be the string's buffer.
- * 1: as pq_check. 8: out_len is under PQ_ROOM_SERIAL. 2, 3, 4, 5, 6, 7. 9, 10, 11, 12, 13. 0. */
+ * 1: as pq_check. 8: out_len is under PQ_ROOM_SERIAL. 2, 3, 4, 5, 6, 7. 9, 10, 11, 15, 16, 12, 13. 0. */
 uint8_t pq_serve_serial(const uint8_t *tree, size_t tree_len, uint8_t *cells, size_t cells_len, uint8_t host, uint8_t address,
-    const uint8_t *string, size_t string_len, uint8_t *out, size_t out_len, size_t *len, uint8_t *action);
+    const uint8_t *string, size_t string_len, uint8_t *out, size_t out_len, size_t *len, uint8_t *action, uint8_t *missing);
 
 /* A datagram; the reply is a datagram. out must not be the datagram's buffer.
- * 1: as pq_check. 8: out_len is under PQ_ROOM_UDP. 2, 4, 5. 9, 10, 11, 12, 13. 0. */
+ * 1: as pq_check. 8: out_len is under PQ_ROOM_UDP. 2, 4, 5. 9, 10, 11, 15, 16, 12, 13. 0. */
 uint8_t pq_serve_udp(const uint8_t *tree, size_t tree_len, uint8_t *cells, size_t cells_len, uint8_t host,
-    const uint8_t *datagram, size_t datagram_len, uint8_t *out, size_t out_len, size_t *len, uint8_t *action);
+    const uint8_t *datagram, size_t datagram_len, uint8_t *out, size_t out_len, size_t *len, uint8_t *action, uint8_t *missing);
 
 /* ---- Buslink over CAN ----
  * A station is a base address of 1 to 8 and a sub address of 1 to 5. Its indicators 1 to 15 are the first 15 live properties of the
@@ -336,9 +345,9 @@ uint8_t pq_write_udp(uint8_t op, const uint8_t *path, size_t path_len, uint8_t i
  * address, and without its arguments, which are the caller's, and without what memcpy and memset take themselves.
  *
  *   pq_begin_buslink         8      pq_datagram_data         8      pq_restore_cells       264
- *   pq_begin_cells         248      pq_feed                 48      pq_serve_data          440
- *   pq_begin_stream         24      pq_frame                16      pq_serve_serial        712
- *   pq_buslink_indicator     8      pq_list               4720      pq_serve_udp           440
+ *   pq_begin_cells         248      pq_feed                 48      pq_serve_data          456
+ *   pq_begin_stream         24      pq_frame                16      pq_serve_serial        728
+ *   pq_buslink_indicator     8      pq_list               4720      pq_serve_udp           456
  *   pq_buslink_receive       8      pq_post                280      pq_state_size            8
  *   pq_buslink_send        360      pq_read_frame          105      pq_write_serial        184
  *   pq_cells_size          232      pq_read_serial         232      pq_write_sheet        1008

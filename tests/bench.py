@@ -1,4 +1,5 @@
-"""Runs the bench program on streams made at random and compares every line with the rules of tests/cases.py.
+"""Runs the bench program on streams made at random, compares every line with the rules of tests/cases.py, and sees that every number
+that the program can give was met.
 
 Usage: bench.py PROGRAM [ROUNDS]        (target/bin/bench, after rt check bench)
 """
@@ -23,6 +24,14 @@ def expected(stream):
     return out.encode()
 
 
+# A request for a node or a property that may not be there (document 02, section 7).
+def lookup():
+    path = bytes(random.choice([1, 1, 1, 2, 3]) for _ in range(random.choice([1, 1, 2, 2, 2, 3, 4, 16])))
+    op = random.randrange(1, 6)
+    index = bytes([random.choice([1, 2, 3, 4, 129, 255])]) if op > 1 else b""
+    return bytes([0xB4, op]) + path + index + (bytes(4) + bytes([random.randrange(80)]) if op > 3 else b"")
+
+
 def stream(rounds):
     requests = [d for _, call, *args in cases.CASES if call in ("data", "twice") for d in args if 0 < len(d) <= 256]
     out = b""
@@ -30,7 +39,7 @@ def stream(rounds):
         kind = random.random()
         if kind < 0.6:
             out += b"\x10" * random.choice([0, 0, 1, 2, 5])
-            out += cases.frame(random.choice([0, 0, 0, 0, 5]), random.choice(requests))
+            out += cases.frame(random.choice([0, 0, 0, 0, 5]), random.choice([random.choice(requests), lookup()]))
         elif kind < 0.8:
             out += bytes(random.choice([0x10, 2, 3, 0, 0xB4, 255]) for _ in range(random.randrange(12)))
         elif kind < 0.9:
@@ -41,9 +50,15 @@ def stream(rounds):
 
 
 random.seed(1)
+met = set()
 for k in range(int(sys.argv[2]) if len(sys.argv) > 2 else 30):
     given = stream(2000 if k < 5 else 60)
+    wanted = expected(given)
     got = subprocess.run([sys.argv[1]], input=given, capture_output=True, check=True).stdout
-    if got != expected(given):
+    if got != wanted:
         sys.exit(f"stream {k}: the program and the rules differ")
+    met.update(line for line in wanted.splitlines() if line.startswith(b"answer="))
+unmet = {b"answer=%d" % number for number in (0, 3, 4, 5, 6, 7, 10, 11, 12, 13, 15, 16)} - met
+if unmet:
+    sys.exit(f"bench: never met: {sorted(unmet)}")
 print("bench: same")

@@ -154,6 +154,10 @@ class Tree:
             n = self.children(n)[b - 1]
         return n
 
+    # 02, section 7: how long the shortest front part of a path is that no node has.
+    def missing(self, path):
+        return min(k for k in range(1, len(path) + 1) if self.find(path[:k]) is None)
+
     def form(self):
         out, at = bytes([len(self.nodes), len(self.properties)]), 2 + 3 * len(self.nodes) + 16 * len(self.properties)
         texts = b""
@@ -224,8 +228,10 @@ def serve(tree, host, d):
     if op == 0:
         return 0, b"\x55"
     n = tree.find(path)
-    if n is None or (op > 1 and index > len(tree.owned(n))):
-        return 11, b"\x54"
+    if n is None:
+        return 15, b"\x54"
+    if op > 1 and index > len(tree.owned(n)):
+        return 16, b"\x54"
     if op == 1:
         return 0, d + bytes([len(tree.children(n)), len(tree.owned(n))]) + tree.nodes[n][1] + b"\0"
     place = tree.owned(n)[index - 1]
@@ -250,6 +256,20 @@ def serve(tree, host, d):
         cell[0] = value
         number, save, text = 0, 1, b""
     return number, d + bytes([save]) + (text + b"\0" if op == 5 else b"")
+
+
+# What is told beside the number and the reply: the place of an action to be taken, or 255; the length that 15 tells, or 0.
+NOTHING = bytes([255, 0])
+
+
+def told(tree, d, number, reply):
+    if number not in (0, 15):
+        return NOTHING
+    op, path, index, _ = request(d)[1]
+    if number == 15:
+        return bytes([255, tree.missing(path)])
+    taken = op in (4, 5) and reply[len(d)] == 2
+    return bytes([tree.owned(tree.find(path))[index - 1], 0]) if taken else NOTHING
 
 
 # 01, Bench tree and its cases.
@@ -465,6 +485,15 @@ CODED = {
 }
 
 
+# 02, section 7: nodes as in the bench tree, without properties; and sixteen nodes, each below the one before.
+def nodes():
+    return Tree([(0, b"")] * 3, [])
+
+
+def chain():
+    return Tree([(max(place - 1, 0), b"") for place in range(16)], [])
+
+
 def to_single(op, value):
     """A write to the one property."""
     return bytes([0xB4, op, 1, 1, 0]) + (value % 2**32).to_bytes(4, "big")
@@ -584,8 +613,9 @@ CASES = [
     ("serve_data/5", "data", bytes(257)),
     ("serve_data/9", "data_off", H("FF")),
     ("serve_data/10", "data", H("B406")),
-    ("serve_data/11", "data", H("B403010301")),
-    ("serve_data/11 shape", "data", H("B40401020100000000")),
+    ("serve_data/11", "data", H("B40401020100000000")),
+    ("serve_data/15", "data", H("B403010301")),
+    ("serve_data/16", "nodes", H("B4030101")),
     ("serve_data/12", "data", H("B403010102")),
     ("serve_data/12 action", "data", H("B403010203")),
     ("serve_data/13", "data", H("B4050101010000000000")),
@@ -603,6 +633,8 @@ CASES = [
     ("serve_serial/9", "serial_off", 0, PING),
     ("serve_serial/10", "serial", 0, frame(0, H("FF"))),
     ("serve_serial/11", "serial", 0, frame(0, H("B4"))),
+    ("serve_serial/15", "serial_nodes", 0x10, frame(0x10, H("B4010103"))),
+    ("serve_serial/16", "serial_nodes", 0, frame(0, H("B402010201"))),
     ("serve_serial/12", "serial", 0, frame(0, H("B403010102"))),
     ("serve_serial/13", "serial", 0, frame(0, H("B4040102010000000041"))),
     ("serve_udp/0", "udp", bytes(4) + H("B403010101")),
@@ -613,7 +645,9 @@ CASES = [
     ("serve_udp/5", "udp", bytes(261)),
     ("serve_udp/9", "udp_off", bytes(4) + H("B400")),
     ("serve_udp/10", "udp", bytes(4) + H("B4FF01")),
-    ("serve_udp/11", "udp", bytes(4) + H("B40102")),
+    ("serve_udp/11", "udp_nodes", bytes(4) + H("B4010200")),
+    ("serve_udp/15", "udp", bytes(4) + H("B40102")),
+    ("serve_udp/16", "udp_nodes", bytes(4) + H("B403010102")),
     ("serve_udp/12", "udp", bytes(4) + H("B403010102")),
     ("serve_udp/13", "udp", bytes(4) + H("B4050101010000000000")),
     ("post/0", "post", 1, 2150, 1),
@@ -754,6 +788,34 @@ CASES = [
     ("step/load/0 both", "load_pair", b"A=20\nB=21\n"),
     ("step/load/18 the second, none stored", "load_pair", b"A=20\nB=20\n"),
     ("step/load/17 behind an 18", "load_pair", b"A=7\nB=021\n"),
+    # 02, section 7: what is told of the path by every op and transport, and with every other number.
+    ("path/15 first number", "told", H("B40102")),
+    ("path/15 second of four", "told", H("B40101030507")),
+    ("path/15 third of four", "told", H("B40101010101")),
+    ("path/15 op 2", "told", H("B402010301")),
+    ("path/15 op 3", "told", H("B40301FFFF")),
+    ("path/15 op 4", "told", H("B404010201010000000000")),
+    ("path/15 op 5", "told", H("B405020100" "00000000")),
+    ("path/15 serial", "told_serial", 0x10, frame(0x10, H("B40301020101"))),
+    ("path/15 UDP", "told_udp", bytes(4) + H("B40301020101")),
+    ("path/15 sixteenth", "told_chain", H("B401") + b"\1" * 15 + b"\2"),
+    ("path/11 of seventeen", "told", H("B401") + b"\2" * 17),
+    ("path/16 op 2", "told", H("B4020101")),
+    ("path/16 op 3", "told", H("B40301FF")),
+    ("path/16 op 4", "told", H("B404010281" "0000000000")),
+    ("path/16 op 5", "told", H("B40501010100" "00000000")),
+    ("path/16 serial", "told_serial", 0, frame(0, H("B40301FF"))),
+    ("path/16 UDP", "told_udp", bytes(4) + H("B40301FF")),
+    ("path/0 action", "told_go", to_single(4, 7)),
+    ("path/1", "told_unsound", H("B40102")),
+    ("path/8", "told_no_room", H("B40102")),
+    ("path/2", "told_udp", bytes(3) + H("B40102")),
+    ("path/7", "told_serial", 1, frame(0, H("B40102"))),
+    ("path/9", "told_off", H("B40102")),
+    ("path/10", "told", H("B40602")),
+    ("path/11", "told", H("B4030200")),
+    ("path/12", "told_go", READ_SINGLE),
+    ("path/13", "told_meter", to_single(4, 7)),
     # 003: the checksum of a sum of 1234h, and the examples of section 5.
     ("003/checksum", "write_frame", 0, b"\xFF" * 18 + b"\x46"),
     ("003/5.1", "penko", H("B400")),
@@ -769,7 +831,7 @@ CASES = [
     ("003/5.6 gain point", "penko", H("B4050103020201030100" "000186A0")),
 ]
 
-# What the documents print in full; of sheets, sums and steps, what they come to.
+# What the documents print in full; of sheets, sums, steps and paths, what they come to.
 SAYS = {
     "01/address 10h": "0 10021010B4003B1003",
     "01/10 02 10 03": "4 ",
@@ -778,6 +840,12 @@ SAYS = {
     "serve_data/0": "0 55",
     "serve_data/0 op 1": "0 B401010200426F7800",
     "serve_data/0 op 2": "0 B402010202020000000000000001000310805261746500536C6F77004661737400",
+    "serve_data/15": "15 54",
+    "serve_data/16": "16 54",
+    "serve_serial/15": "15 10021010549B1003",
+    "serve_serial/16": "16 10020054AB1003",
+    "serve_udp/15": "15 00000000" "54",
+    "serve_udp/16": "16 00000000" "54",
     "serve_data/12": "12 58",
     "serve_data/13": "13 B405010101000000000000526561" "64206F6E6C7900",
     "sheet/0": "0 417665726167653D340A" "526174653D300A",
@@ -807,6 +875,25 @@ SAYS = {
     "step/sheet/18 max": "18 ",
     "step/load/0": "0 FFFFFFFE" "01",
     "step/load/18 the second, none stored": "18 0000000A00" "0000000B00",
+    "path/15 first number": "15 FF01",
+    "path/15 second of four": "15 FF02",
+    "path/15 third of four": "15 FF03",
+    "path/15 op 2": "15 FF02",
+    "path/15 op 3": "15 FF02",
+    "path/15 op 4": "15 FF03",
+    "path/15 op 5": "15 FF01",
+    "path/15 serial": "15 FF03",
+    "path/15 UDP": "15 FF03",
+    "path/15 sixteenth": "15 FF10",
+    "path/11 of seventeen": "11 FF00",
+    "path/16 op 2": "16 FF00",
+    "path/16 op 5": "16 FF00",
+    "path/0 action": "0 0000",
+    "path/8": "8 FF00",
+    "path/9": "9 FF00",
+    "path/11": "11 FF00",
+    "path/12": "12 FF00",
+    "path/13": "13 FF00",
     "003/checksum": "0 100200" + "FF" * 18 + "46CB1003",
     "003/5.2 totals": "0 B40101010A0401546F74616C7300",
     "003/5.3 weigher": "0 B40201010301010100000000000000002001C00357656967686572004B6700",
@@ -858,14 +945,40 @@ LOADS = {
 }
 
 
-# Frames sent, requests served, words posted: of which tree.
+# Frames sent, requests served (data, strings and datagrams; what is told of them), words posted: of which tree.
 BUSES = {"bus_send": bench, "bus_send_extremes": extremes}
-SERVED = {"data": bench, "twice": bench, "limits": limits, "penko": penko, **STEPPED, **CODED}
+SERVED = {"data": bench, "twice": bench, "limits": limits, "penko": penko, "nodes": nodes, **STEPPED, **CODED}
+CARRIED = {"serial": bench, "udp": bench, "serial_nodes": nodes, "udp_nodes": nodes}
+TOLD = {
+    "told": nodes,
+    "told_serial": nodes,
+    "told_udp": nodes,
+    "told_chain": chain,
+    "told_go": STEPPED["go"],
+    "told_meter": STEPPED["meter"],
+}
 POSTS = {"post": bench, "post_level": STEPPED["level"]}
 
 
 def tree_of(base):
-    return {"list_penko": penko, **BUSES, **SERVED, **POSTS, **SHEETS, **LOADS}.get(base, bench)()
+    return {"list_penko": penko, **BUSES, **SERVED, **CARRIED, **TOLD, **POSTS, **SHEETS, **LOADS}.get(base, bench)()
+
+
+def way_of(base):
+    """How a request comes."""
+    return "serial" if "serial" in base else "udp" if "udp" in base else "data"
+
+
+def serve_by(tree, base, host, args):
+    """What comes of a string or datagram, or what is told of these or of data."""
+    way = way_of(base)
+    number, d = string(*args) if way == "serial" else datagram(*args) if way == "udp" else (0, args[0])
+    if number:
+        return number, NOTHING if base in TOLD else b""
+    number, reply = serve(tree, host, d)
+    if base in TOLD:
+        return number, told(tree, d, number, reply)
+    return number, frame(args[0], reply) if way == "serial" else bytes(4) + reply
 
 
 def answers(call, args):
@@ -913,7 +1026,7 @@ def answers(call, args):
         number, lent = (1, bytes(24)) if unsound else (load(tree, args[0]), tree.cell_bytes())
         return [(number, lent)] + [sheet(tree)] * (base == "load_cold_back")
     if no_room or unsound:
-        return [(8 if no_room else 1, b"")]
+        return [(8 if no_room else 1, NOTHING if base in TOLD else b"")]
     if base in ("write_frame", "write_datagram"):
         number = size(args[-1])
         return [(number, b"" if number else frame(*args) if base == "write_frame" else bytes(4) + args[0])]
@@ -936,11 +1049,7 @@ def answers(call, args):
         return [(number, b"" if number else frame(args[0], d) if base == "write_serial" else bytes(4) + d)]
     if base in SERVED:
         return [serve(tree, not off, d) for d in args]
-    number, d = string(*args) if base == "serial" else datagram(*args)
-    if number:
-        return [(number, b"")]
-    number, reply = serve(tree, not off, d)
-    return [(number, frame(args[0], reply) if base == "serial" else bytes(4) + reply)]
+    return [serve_by(tree, base, not off, args)]
 
 
 def lines():
@@ -971,6 +1080,9 @@ CALLS = {
     "data": (0x30, 256, ()),
     "serial": (0x31, 520, ("address",)),
     "udp": (0x32, 260, ()),
+    "told": (0x33, 256, ()),
+    "told_serial": (0x34, 520, ("address",)),
+    "told_udp": (0x35, 260, ()),
     "post": (0x40, 520, ("index", "value", "mark")),
     "restore": (0x41, 520, ()),
     "reading": (0x42, 520, ("index",)),
@@ -1008,6 +1120,10 @@ def steps(name, base, args):
         return [(name, "restore", [])] + [(name, "data", [d]) for d in args]
     if base in SERVED:
         return [(name, "data", [d]) for d in args]
+    if base in CARRIED:
+        return [(name, way_of(base), args)]
+    if base in TOLD:
+        return [(name, {"data": "told", "serial": "told_serial", "udp": "told_udp"}[way_of(base)], args)]
     if base in POSTS:
         return [(name, "post", args)]
     return [(name, base, args)]
@@ -1025,7 +1141,7 @@ def records(name, call, args):
     tree, lent = b"", b""
     if base in ("feed", "feed_twice"):
         lent = bytes([4 if unsound else 0]) * 261
-    elif base in ("serial", "udp", "restore", "reading", *SERVED, *POSTS, *SHEETS, *BUSES, *LOADS):
+    elif base in ("restore", "reading", *SERVED, *CARRIED, *TOLD, *POSTS, *SHEETS, *BUSES, *LOADS):
         tree, lent = tree_of(base).form(), bytes(24) if unsound else tree_of(base).cell_bytes()
     elif base in ("bus_receive", "bus_ask"):
         lent = RECORDS[: 60 - unsound]
@@ -1033,7 +1149,7 @@ def records(name, call, args):
         tree = tree_of(base).form()[: -1 if unsound else None]
     for k, (title, step, values) in enumerate(steps(name, base, args)):
         kind, room, names = CALLS[step]
-        host = int(step in ("data", "serial", "udp") and not off)
+        host = int(step in ("data", "serial", "udp", "told", "told_serial", "told_udp") and not off)
         n = {"address": 0, "mark": host, "index": 0, "value": 0}
         n.update(zip(names, (v for v in values if isinstance(v, int))))
         room = room or length(base, args)

@@ -55,6 +55,7 @@ EXCHANGES = [
     ("B4 03 01 03 01", "54"),
     ("B4 06", "59"),
 ]
+BEGUN_TOLD = b"restart\nnot a request\nno node 1.3\n"
 BEGUN = [(OTHERS, request, reply) for request, reply in EXCHANGES]
 
 # Saved when both probes were ready and the settings were not those that cells begin with.
@@ -75,8 +76,37 @@ RESTORED = [
 # Nothing of spoilt cells is used, and the program begins where there are none.
 AFRESH = [(b"", PROBE_1, PROBE_1 + "01 00000834"), (b"", AVERAGE, AVERAGE + "01 00000004"), (b"", RATE, RATE + "01 00000000")]
 
+# Requests that are answered with 54, and the line that is told of each (document 02, section 7): for 15 the part of the path that
+# no node has, for 16 the path and the index; for 11, which has no part to tell, that it is no request.
+LOST = [
+    ("B4 01 01 03 05", "no node 1.3"),
+    ("B4 03 01 03 05 01", "no node 1.3"),
+    ("B4 01 02 01", "no node 2"),
+    ("B4 01 FF", "no node 255"),
+    ("B4 02 02 01", "no node 2"),
+    ("B4 03 01 01 01 01", "no node 1.1.1"),
+    ("B4 04 01 02 FF 10 01 00 01020304", "no node 1.2.255"),
+    ("B4 05 10 01 00 00000000", "no node 16"),
+    ("B4 01" + "01" * 16, "no node 1.1.1"),
+    ("B4 03" + "01" * 15 + "02 03", "no node 1.1.1"),
+    ("B4 02 01 01", "no property 1.1"),
+    ("B4 02 01 02 04", "no property 1.2.4"),
+    ("B4 03 01 02 09", "no property 1.2.9"),
+    ("B4 03 01 01 FF", "no property 1.1.255"),
+    ("B4 04 01 02 09 00 01020304", "no property 1.2.9"),
+    ("B4 04 01 02 09 00 00000000", "no property 1.2.9"),
+    ("B4 05 01 01 03 00 00000100", "no property 1.1.3"),
+    ("B4 01 02 00", "not a request"),
+    ("B4 03 02 00", "not a request"),
+    ("B4 04 01 03 01 00 000000", "not a request"),
+    ("B4 01" + "02" * 17, "not a request"),
+]
+MISSED = [(b"", request, "54") for request, _ in LOST] + [(b"", AVERAGE, AVERAGE + "01 00000004")]
+MISSED_TOLD = "".join(line + "\n" for _, line in LOST).encode()
+
 RUNS = [
-    ("begun", None, BEGUN, b"restart\n"),
+    ("begun", None, BEGUN, BEGUN_TOLD),
+    ("begun, for paths", None, MISSED, MISSED_TOLD),
     ("restored", SAVED, RESTORED, b""),
     ("with a mark of 2", SAVED[:4] + b"\x02" + SAVED[5:], AFRESH, b""),
     ("a byte short", SAVED[:-1], AFRESH, b""),

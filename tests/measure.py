@@ -20,6 +20,8 @@ WHAT = {
     "frame-256": "`pq_frame`, 256 bytes, the same each time",
     "frame-varied": "`pq_frame`, 256 bytes, 256 drawn strings by turns, one byte in eight 10h",
     "op4-step": "`pq_serve_data`, op 4, bench tree with Average in steps of 5",
+    "missing-bench": "`pq_serve_data`, op 3, path 1.3, which no node has, bench tree",
+    "missing-largest": "`pq_serve_data`, op 3, sixteen numbers, the last of no node, largest tree",
     "buslink_send-bench": "`pq_buslink_send`, type 2, bench tree",
     "buslink_send-largest": "`pq_buslink_send`, type 9, largest tree",
     "buslink_receive": "`pq_buslink_receive`, the bench tree's type 2",

@@ -11,7 +11,7 @@ static const uint8_t wide[] = {1, 1, 0, 0, 21, 0, 1, 0, 0, 0, 0, 0, 0, 0, 0, 0x2
 /* The same property as a setting. */
 static const uint8_t set[] = {1, 1, 0, 0, 21, 0, 1, 0, 0, 0, 0, 0, 0, 0, 0, 0, 0x03, 0, 0, 0, 23, 'B', 0, 'P', 0, 'C', 0};
 
-static uint8_t state[PQ_STATE_SIZE], cell[PQ_CELL_SIZE], out[PQ_ROOM_SERIAL], path[PQ_PATH_SIZE], op, index, action;
+static uint8_t state[PQ_STATE_SIZE], cell[PQ_CELL_SIZE], out[PQ_ROOM_SERIAL], path[PQ_PATH_SIZE], op, index, action, missing;
 static uint8_t records[PQ_BUSLINK_SIZE], status, format;
 static size_t len, taken, offset;
 static uint32_t word, identifier;
@@ -90,7 +90,7 @@ static void on_cells(uint8_t *none)
     EXPECT(14, pq_post(tree, sizeof tree, none, 0, 0, 1, 1));
     EXPECT(1, pq_post(wide, sizeof wide, none, 0, 0, 1, 1));
     EXPECT(1, pq_reading(none, 0, none, 0, 0, &word));
-    EXPECT(11, pq_reading(tree, sizeof tree, none, 0, 0, &word));
+    EXPECT(16, pq_reading(tree, sizeof tree, none, 0, 0, &word));
     EXPECT(1, pq_reading(wide, sizeof wide, none, 0, 0, &word));
 }
 
@@ -153,25 +153,60 @@ static void on_buslink(uint8_t *none)
     EXPECT(1, pq_buslink_indicator(none, 0, 1, &value, &status, &format));
 }
 
+/* What was told before a call must not be told after it. */
+static uint8_t *anew(void)
+{
+    missing = 0xEE;
+    return &missing;
+}
+
 static void on_serving(uint8_t *none)
 {
-    static const uint8_t detect[] = {0xB4, 0}, node[] = {0xB4, 1, 1}, read[] = {0xB4, 3, 1, 1};
-    static const uint8_t string[] = {0x10, 0x02, 0x00, 0xB4, 0x00, 0x4B, 0x10, 0x03}, datagram[] = {0, 0, 0, 0, 0xB4, 0};
+    static const uint8_t detect[] = {0xB4, 0}, node[] = {0xB4, 1, 1}, other[] = {0xB4, 1, 1, 7, 1}, read[] = {0xB4, 3, 1, 1};
 
-    EXPECT(1, pq_serve_data(none, 0, none, 0, 1, none, 0, none, 0, &len, &action));
-    EXPECT(8, pq_serve_data(tree, sizeof tree, none, 0, 1, none, 0, none, 0, &len, &action));
-    EXPECT(4, pq_serve_data(tree, sizeof tree, none, 0, 1, none, 0, out, sizeof out, &len, &action));
-    EXPECT(0, pq_serve_data(tree, sizeof tree, none, 0, 1, detect, sizeof detect, out, sizeof out, &len, &action));
-    EXPECT(0, pq_serve_data(tree, sizeof tree, none, 0, 1, node, sizeof node, out, sizeof out, &len, &action));
-    EXPECT(11, pq_serve_data(tree, sizeof tree, none, 0, 1, read, sizeof read, out, sizeof out, &len, &action));
-    EXPECT(1, pq_serve_serial(none, 0, none, 0, 1, 0, none, 0, none, 0, &len, &action));
-    EXPECT(8, pq_serve_serial(tree, sizeof tree, none, 0, 1, 0, none, 0, none, 0, &len, &action));
-    EXPECT(2, pq_serve_serial(tree, sizeof tree, none, 0, 1, 0, none, 0, out, sizeof out, &len, &action));
-    EXPECT(0, pq_serve_serial(tree, sizeof tree, none, 0, 1, 0, string, sizeof string, out, sizeof out, &len, &action));
-    EXPECT(1, pq_serve_udp(none, 0, none, 0, 1, none, 0, none, 0, &len, &action));
-    EXPECT(8, pq_serve_udp(tree, sizeof tree, none, 0, 1, none, 0, none, 0, &len, &action));
-    EXPECT(2, pq_serve_udp(tree, sizeof tree, none, 0, 1, none, 0, out, sizeof out, &len, &action));
-    EXPECT(0, pq_serve_udp(tree, sizeof tree, none, 0, 1, datagram, sizeof datagram, out, sizeof out, &len, &action));
+    EXPECT(1, pq_serve_data(none, 0, none, 0, 1, none, 0, none, 0, &len, &action, anew()));
+    EXPECT(0, missing);
+    EXPECT(8, pq_serve_data(tree, sizeof tree, none, 0, 1, none, 0, none, 0, &len, &action, anew()));
+    EXPECT(0, missing);
+    EXPECT(4, pq_serve_data(tree, sizeof tree, none, 0, 1, none, 0, out, sizeof out, &len, &action, anew()));
+    EXPECT(0, missing);
+    EXPECT(0, pq_serve_data(tree, sizeof tree, none, 0, 1, detect, sizeof detect, out, sizeof out, &len, &action, anew()));
+    EXPECT(0, missing);
+    EXPECT(0, pq_serve_data(tree, sizeof tree, none, 0, 1, node, sizeof node, out, sizeof out, &len, &action, anew()));
+    EXPECT(0, missing);
+    EXPECT(15, pq_serve_data(tree, sizeof tree, none, 0, 1, other, sizeof other, out, sizeof out, &len, &action, anew()));
+    EXPECT(2, missing);
+    EXPECT(16, pq_serve_data(tree, sizeof tree, none, 0, 1, read, sizeof read, out, sizeof out, &len, &action, anew()));
+    EXPECT(0, missing);
+}
+
+static void on_transports(uint8_t *none)
+{
+    static const uint8_t string[] = {0x10, 0x02, 0x00, 0xB4, 0x00, 0x4B, 0x10, 0x03}, datagram[] = {0, 0, 0, 0, 0xB4, 0};
+    /* the nodes 2 and 1.2 */
+    static const uint8_t far_one[] = {0x10, 0x02, 0x00, 0xB4, 0x01, 0x02, 0x48, 0x10, 0x03}, far_two[] = {0, 0, 0, 0, 0xB4, 1, 1, 2};
+
+    EXPECT(1, pq_serve_serial(none, 0, none, 0, 1, 0, none, 0, none, 0, &len, &action, anew()));
+    EXPECT(0, missing);
+    EXPECT(8, pq_serve_serial(tree, sizeof tree, none, 0, 1, 0, none, 0, none, 0, &len, &action, anew()));
+    EXPECT(2, pq_serve_serial(tree, sizeof tree, none, 0, 1, 0, none, 0, out, sizeof out, &len, &action, anew()));
+    EXPECT(0, missing);
+    EXPECT(0,
+        pq_serve_serial(tree, sizeof tree, none, 0, 1, 0, string, sizeof string, out, sizeof out, &len, &action, anew()));
+    EXPECT(0, missing);
+    EXPECT(15,
+        pq_serve_serial(tree, sizeof tree, none, 0, 1, 0, far_one, sizeof far_one, out, sizeof out, &len, &action, anew()));
+    EXPECT(1, missing);
+    EXPECT(1, pq_serve_udp(none, 0, none, 0, 1, none, 0, none, 0, &len, &action, anew()));
+    EXPECT(0, missing);
+    EXPECT(8, pq_serve_udp(tree, sizeof tree, none, 0, 1, none, 0, none, 0, &len, &action, anew()));
+    EXPECT(2, pq_serve_udp(tree, sizeof tree, none, 0, 1, none, 0, out, sizeof out, &len, &action, anew()));
+    EXPECT(0, missing);
+    EXPECT(0,
+        pq_serve_udp(tree, sizeof tree, none, 0, 1, datagram, sizeof datagram, out, sizeof out, &len, &action, anew()));
+    EXPECT(0, missing);
+    EXPECT(15, pq_serve_udp(tree, sizeof tree, none, 0, 1, far_two, sizeof far_two, out, sizeof out, &len, &action, anew()));
+    EXPECT(2, missing);
 }
 
 static void on_frames(uint8_t *none)
@@ -209,6 +244,7 @@ int main(void)
         on_sheets(pointers[i]);
         on_buslink(pointers[i]);
         on_serving(pointers[i]);
+        on_transports(pointers[i]);
         on_frames(pointers[i]);
         on_requests(pointers[i]);
     }

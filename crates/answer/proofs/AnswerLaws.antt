@@ -8,11 +8,12 @@ use mathlib.Core.List.{List, [], _∷_}
 use mathlib.Core.Option.{none, some}
 use borrow.Author.Tests.{eq-eqb, ne-eqb}
 use lib.ListN.{length, set}
-use Rattle.protocol.specs.Numbers.{done, disabled, badParameter, noReading, ACK, opDetect, opNode, opRecord, opRead}
+use Rattle.protocol.specs.Numbers.{done, disabled, noReading, noSuchNode, noSuchProperty, ACK, opDetect, opNode, opRecord, opRead}
 use Rattle.protocol.specs.Buffer.{Put}
 use Rattle.protocol.specs.Request.{Request, Asked, Allowed}
 use Rattle.protocol.specs.Tree.{Property, Tree, Cell, propertyOf, nodeAt, propertyIn, cellIn, sound, readable}
-use Rattle.protocol.specs.Answer.{Outcome, outcome, writeNumber, stored, cellsAfter, actionOf, nodeReply, recordReply, readReply, writeReply, Answer, plain, refuse, refusalCode, onRead, onWrite, onProperty, ifProperty, ifNode, perform, ifAsked}
+use Rattle.protocol.specs.Path.{missingLength, failureNumber, failureLength}
+use Rattle.protocol.specs.Answer.{Outcome, outcome, writeNumber, stored, cellsAfter, actionOf, nodeReply, recordReply, readReply, writeReply, Answer, plain, refuse, refuseAt, refusalCode, onRead, onWrite, onProperty, ifProperty, ifNode, perform, ifAsked}
 use Rattle.protocol.proofs.TestLaws.{and-left, and-right}
 use Rattle.protocol.proofs.RequestLaws.{fitting, path-most}
 use Rattle.protocol.proofs.AnswerLaws.{Texts, texts-short, node-size, record-size}
@@ -45,34 +46,34 @@ module _ (tree cells : List ℕ) (lent : isLent tree cells ≡ true) where
   record-short r h place = record-size r (path-most r (fitting r h .rest)) (seen tree) short place .most
 
 -- A refusal, and the answers that leave the cells as they are.
-pub refuses : {n code size : ℕ} {out out′ : List ℕ} → code ≡ refusalCode n → Put 0 (code ∷ []) out size out′
-    → Refuses n out n size 255 out′
+pub refuses : {n len code size : ℕ} {out out′ : List ℕ} → code ≡ refusalCode n → Put 0 (code ∷ []) out size out′
+    → Refuses n len out n size 255 len out′
 refuses {size = size} {out = out} {out′ = out′} e p =
-    record { number-is = refl; reply = subst (λ b. Put 0 (b ∷ []) out size out′) e p; acts = refl }
+    record { number-is = refl; reply = subst (λ b. Put 0 (b ∷ []) out size out′) e p; acts = refl; tells = refl }
 
 module _ {cs : List Cell} {cells : List ℕ} (cells-are : cells ≡ cellsForm cs) where
-  pub refused : {number n size action : ℕ} {out out′ : List ℕ} → Refuses number out n size action out′
-      → Answers (refuse cs number) out n size action cells out′
-  refused r = record { number = r .number-is; reply = r .reply; acts = r .acts; cells = cells-are }
+  pub refused : {number len n size action missing : ℕ} {out out′ : List ℕ} → Refuses number len out n size action missing out′
+      → Answers (refuseAt cs number len) out n size action missing cells out′
+  refused r = record { number = r .number-is; reply = r .reply; acts = r .acts; tells = r .tells; cells = cells-are }
 
-  pub replied : {size : ℕ} {bs out out′ : List ℕ} → Put 0 bs out size out′ → Answers (plain cs done bs) out done size 255 cells out′
-  replied p = record { number = refl; reply = p; acts = refl; cells = cells-are }
+  pub replied : {size : ℕ} {bs out out′ : List ℕ} → Put 0 bs out size out′ → Answers (plain cs done bs) out done size 255 0 cells out′
+  replied p = record { number = refl; reply = p; acts = refl; tells = refl; cells = cells-are }
 
 -- One answer is another.
-pub answers-as : {a b : Answer} {n size action : ℕ} {out cells out′ : List ℕ} → b ≡ a → Answers a out n size action cells out′
-    → Answers b out n size action cells out′
-answers-as {n = n} {size = size} {action = action} {out = out} {cells = cells} {out′ = out′} e h =
-    subst (λ x. Answers x out n size action cells out′) (sym e) h
+pub answers-as : {a b : Answer} {n size action missing : ℕ} {out cells out′ : List ℕ} → b ≡ a
+    → Answers a out n size action missing cells out′ → Answers b out n size action missing cells out′
+answers-as {n = n} {size = size} {action = action} {missing = missing} {out = out} {cells = cells} {out′ = out′} e h =
+    subst (λ x. Answers x out n size action missing cells out′) (sym e) h
 
 -- A write, by what it did.
-pub writes : (cs : List Cell) (place : ℕ) (r : Request) {o told did : Outcome} {n len size action : ℕ} {out cells out′ : List ℕ}
+pub writes : (cs : List Cell) (place : ℕ) (r : Request) {o told did : Outcome} {n len size action missing : ℕ} {out cells out′ : List ℕ}
     → told ≡ o → told ≡ did → Put 0 (writeReply told r) out len out′ → n ≡ writeNumber did → size ≡ len
-    → action ≡ actionNumber (actionOf did place) → cells ≡ cellsForm (cellsAfter did cs place (r .value))
-    → Answers (onWrite cs place r o) out n size action cells out′
+    → action ≡ actionNumber (actionOf did place) → missing ≡ 0 → cells ≡ cellsForm (cellsAfter did cs place (r .value))
+    → Answers (onWrite cs place r o) out n size action missing cells out′
 unfolding onWrite
-writes cs place r {o} {did = did} e f p number len action cells =
+writes cs place r {o} {did = did} e f p number len action missing cells =
     let is : o ≡ did = sym e ∙ f in
-    rw is (record { number = number; reply = rw (len, ← f) p; acts = action; cells = cells })
+    rw is (record { number = number; reply = rw (len, ← f) p; acts = action; tells = missing; cells = cells })
 
 -- The cells once a value is saved.
 pub saved-cells : (cs : List Cell) (place v : ℕ) {cells cells′ : List ℕ} → cells ≡ cellsForm cs → cells′ ≡ withWord place v cells
@@ -105,30 +106,31 @@ module _ (t : Tree) (cs : List Cell) (r : Request) where
       rw (ne-eqb (r .op) opRecord (λ e. omega (arith, e, h)), ne-eqb (r .op) opRead (λ e. omega (arith, e, h)))
 
   -- ops 1 to 5, once the node is found;
-  pub is-node : (node : ℕ) → r .op ≡ opNode → ifNode outcome t cs r (some node) ≡ plain cs done (nodeReply t node r)
+  pub is-node : (node : ℕ) → r .op ≡ opNode → ifNode outcome failureNumber t cs r (some node) ≡ plain cs done (nodeReply t node r)
   unfolding ifNode
   is-node node h = rw (eq-eqb (r .op) opNode h)
 
   pub no-property : (node : ℕ) → (r .op ≡ opNode → ⊥) → propertyOf t node (record { 0 = r .index }) ≡ none
-      → ifNode outcome t cs r (some node) ≡ refuse cs badParameter
-  unfolding ifNode ifProperty
+      → ifNode outcome failureNumber t cs r (some node) ≡ refuse cs noSuchProperty
+  unfolding ifNode ifProperty failureNumber failureLength
   no-property node h e = rw (ne-eqb (r .op) opNode h, e)
 
   pub at-property : (node : ℕ) {place : ℕ} → (r .op ≡ opNode → ⊥) → propertyOf t node (record { 0 = r .index }) ≡ some place
-      → ifNode outcome t cs r (some node) ≡ onProperty outcome t cs r place
+      → ifNode outcome failureNumber t cs r (some node) ≡ onProperty outcome t cs r place
   unfolding ifNode ifProperty
   at-property node h e = rw (ne-eqb (r .op) opNode h, e)
 
   -- a request;
-  pub is-detect : r .op ≡ opDetect → perform outcome t cs r ≡ plain cs done (ACK ∷ [])
+  pub is-detect : r .op ≡ opDetect → perform outcome failureNumber t cs r ≡ plain cs done (ACK ∷ [])
   unfolding perform
   is-detect h = rw (eq-eqb (r .op) opDetect h)
 
-  pub no-node : (r .op ≡ opDetect → ⊥) → nodeAt t (r .path) ≡ none → perform outcome t cs r ≡ refuse cs badParameter
-  unfolding perform ifNode
-  no-node h e = rw (ne-eqb (r .op) opDetect h, e)
+  pub no-node : {len : ℕ} → (r .op ≡ opDetect → ⊥) → nodeAt t (r .path) ≡ none → missingLength t (r .path) ≡ len
+      → perform outcome failureNumber t cs r ≡ refuseAt cs noSuchNode len
+  unfolding perform ifNode failureNumber failureLength
+  no-node h e f = rw (ne-eqb (r .op) opDetect h, e, f)
 
-  pub at-node : {node : ℕ} → (r .op ≡ opDetect → ⊥) → nodeAt t (r .path) ≡ some node → perform outcome t cs r ≡ ifNode outcome t cs r (some node)
+  pub at-node : {node : ℕ} → (r .op ≡ opDetect → ⊥) → nodeAt t (r .path) ≡ some node → perform outcome failureNumber t cs r ≡ ifNode outcome failureNumber t cs r (some node)
   unfolding perform
   at-node h e = rw (ne-eqb (r .op) opDetect h, e)
 
@@ -142,6 +144,6 @@ module _ (t : Tree) (cs : List Cell) {host : Bool} (a : Asked) where
   unfolding answerAsked ifAsked
   not-asked h e = rw (h, ne-eqb (a .number) done e)
 
-  pub is-asked : host ≡ true → a .number ≡ done → answerAsked t cs host a ≡ perform outcome t cs (a .request)
+  pub is-asked : host ≡ true → a .number ≡ done → answerAsked t cs host a ≡ perform outcome failureNumber t cs (a .request)
   unfolding answerAsked ifAsked
   is-asked h e = rw (h, eq-eqb (a .number) done e)

@@ -64,19 +64,19 @@ module _ (k : Call) where
   serve-by t u v e f g = rw (e, f, g)
 
   -- Nothing written, no cell changed.
-  gives-row : {n m given len action : ℕ} → serving k ≡ rejected (k .cells) m → n ≡ m → (given ≡ n) × ((len ≡ 0) × (action ≡ 255))
-      → (out : List ℕ) → Serves (serving k) out given len action (k .cells) out
-  gives-row {given = given} {len = len} {action = action} e f away out =
-      subst (λ s. Serves s out given len action (k .cells) out) (sym e)
-      (record { number = away .0 ∙ f; len = away .1 .0; acts = away .1 .1; cells = refl; bytes = sym (over-nil out) })
+  gives-row : {n m given len action missing : ℕ} → serving k ≡ rejected (k .cells) m → n ≡ m → (given ≡ n) × ((len ≡ 0) × ((action ≡ 255) × (missing ≡ 0)))
+      → (out : List ℕ) → Serves (serving k) out given len action missing (k .cells) out
+  gives-row {given = given} {len = len} {action = action} {missing = missing} e f away out =
+      subst (λ s. Serves s out given len action missing (k .cells) out) (sym e)
+      (record { number = away .0 ∙ f; len = away .1 .0; acts = away .1 .1 .0; tells = away .1 .1 .1; cells = refl; bytes = sym (over-nil out) })
 
   -- Rows 1 and 8.
-  pub serve-unlent : {n given len action : ℕ} → n ≡ lentRow k → (n ≡ done → ⊥) → (given ≡ n) × ((len ≡ 0) × (action ≡ 255))
-      → (out : List ℕ) → Serves (serving k) out given len action (k .cells) out
-  serve-unlent {n} {given} {len} {action} e u away out = go (isLent (k .tree) (k .cells)) (ltb (k .room) (k .least)) refl refl e
+  pub serve-unlent : {n given len action missing : ℕ} → n ≡ lentRow k → (n ≡ done → ⊥) → (given ≡ n) × ((len ≡ 0) × ((action ≡ 255) × (missing ≡ 0)))
+      → (out : List ℕ) → Serves (serving k) out given len action missing (k .cells) out
+  serve-unlent {n} {given} {len} {action} {missing} e u away out = go (isLent (k .tree) (k .cells)) (ltb (k .room) (k .least)) refl refl e
     where
       go : (t v : Bool) → isLent (k .tree) (k .cells) ≡ t → ltb (k .room) (k .least) ≡ v → n ≡ cond t (cond v noRoom done) unsound
-          → Serves (serving k) out given len action (k .cells) out
+          → Serves (serving k) out given len action missing (k .cells) out
       go true true p q f = gives-row (serve-by true true (eqb (k .string .number) done) p q refl) f away out
       go true false p q f = absurd (u f)
       go false v p q f = gives-row (serve-by false v (eqb (k .string .number) done) p q refl) f away out
@@ -91,8 +91,8 @@ module _ (k : Call) where
 
   -- The rows of what was received, and the answer.
   module _ (o : Open k) where
-    pub serve-refused : {n given len action : ℕ} → n ≡ k .string .number → (k .string .number ≡ done → ⊥)
-        → (given ≡ n) × ((len ≡ 0) × (action ≡ 255)) → (out : List ℕ) → Serves (serving k) out given len action (k .cells) out
+    pub serve-refused : {n given len action missing : ℕ} → n ≡ k .string .number → (k .string .number ≡ done → ⊥)
+        → (given ≡ n) × ((len ≡ 0) × ((action ≡ 255) × (missing ≡ 0))) → (out : List ℕ) → Serves (serving k) out given len action missing (k .cells) out
     serve-refused e u away out =
         gives-row
         (serve-by true false false (o .lent) (le-ltb (k .room) (k .least) (o .roomy)) (ne-eqb (k .string .number) done u)) e away out
@@ -100,51 +100,52 @@ module _ (k : Call) where
     pub serve-good : k .string .number ≡ done → serving k ≡ inForm (k .form) (answerTo k)
     serve-good d = serve-by true false true (o .lent) (le-ltb (k .room) (k .least) (o .roomy)) (eq-eqb (k .string .number) done d)
 
-    pub serve-answered : k .string .number ≡ done → {out cells′ out′ : List ℕ} {n size action : ℕ}
-        → Serves (inForm (k .form) (answerTo k)) out n size action cells′ out′ → Serves (serving k) out n size action cells′ out′
-    serve-answered d {out} {cells′} {out′} {n} {size} {action} s =
-        subst (λ w. Serves w out n size action cells′ out′) (sym (serve-good d)) s
+    pub serve-answered : k .string .number ≡ done → {out cells′ out′ : List ℕ} {n size action missing : ℕ}
+        → Serves (inForm (k .form) (answerTo k)) out n size action missing cells′ out′ → Serves (serving k) out n size action missing cells′ out′
+    serve-answered d {out} {cells′} {out′} {n} {size} {action} {missing} s =
+        subst (λ w. Serves w out n size action missing cells′ out′) (sym (serve-good d)) s
 
     -- Every reply can be framed.
     pub replies : Sized (answerTo k .reply)
     replies = reply-sized (seen (k .tree)) (lent-sound (k .tree) (k .cells) (o .lent)) (cellsIn (k .cells)) (k .host) (k .string .payload)
 
-  pub answered-as : {x : Asked} → x ≡ readRequest (k .string .payload) → {out cells′ out′ : List ℕ} {n size action : ℕ}
-      → Answers (answerAsked (seen (k .tree)) (cellsIn (k .cells)) (k .host) x) out n size action cells′ out′
-      → Answers (answerTo k) out n size action cells′ out′
-  answered-as e {out} {cells′} {out′} {n} {size} {action} h =
-      subst (λ a. Answers a out n size action cells′ out′)
+  pub answered-as : {x : Asked} → x ≡ readRequest (k .string .payload) → {out cells′ out′ : List ℕ} {n size action missing : ℕ}
+      → Answers (answerAsked (seen (k .tree)) (cellsIn (k .cells)) (k .host) x) out n size action missing cells′ out′
+      → Answers (answerTo k) out n size action missing cells′ out′
+  answered-as e {out} {cells′} {out′} {n} {size} {action} {missing} h =
+      subst (λ a. Answers a out n size action missing cells′ out′)
       (ap (answerAsked (seen (k .tree)) (cellsIn (k .cells)) (k .host)) e
       ∙ answered-data (seen (k .tree)) (cellsIn (k .cells)) (k .host) (k .string .payload))
       h
 
 -- An answer in the form of its transport.
-module _ (a : Answer) {n size action : ℕ} {cells′ out out′ : List ℕ} (h : Answers a out n size action cells′ out′) where
-  pub as-data : Serves (inForm (λ reply. reply) a) out n size action cells′ out′
+module _ (a : Answer) {n size action missing : ℕ} {cells′ out out′ : List ℕ} (h : Answers a out n size action missing cells′ out′) where
+  pub as-data : Serves (inForm (λ reply. reply) a) out n size action missing cells′ out′
   as-data =
       record {
         number = h .number;
         len = h .reply .next ∙ zero-add (length (a .reply));
         acts = h .acts;
+        tells = h .tells;
         cells = h .cells;
         bytes = h .reply .bytes ∙ over-put (a .reply) out;
       }
 
   pub as-serial : Sized (a .reply) → (address : ℕ) {lent new : List ℕ} {m len : ℕ} → roomSerial ≤ length lent
       → Emits (ifRoom roomSerial (length lent) (writeFrame address (take size out′))) lent m len new
-      → Serves (inForm (frame address) a) lent n len action cells′ new
+      → Serves (inForm (frame address) a) lent n len action missing cells′ new
   as-serial sized address room e =
       let w = emits-formed (frame address) roomSerial (a .reply) sized (put-front {ys = a .reply} (h .reply)) room e in
-      record { number = h .number; len = w .len; acts = h .acts; cells = h .cells; bytes = w .bytes }
+      record { number = h .number; len = w .len; acts = h .acts; tells = h .tells; cells = h .cells; bytes = w .bytes }
 
 -- The reply behind its four zero bytes.
 abbrev pub zeros : List ℕ
 zeros = 0 ∷ 0 ∷ 0 ∷ 0 ∷ []
 
-pub as-udp : (a : Answer) {n size action front : ℕ} {cells′ lent part new : List ℕ} → 4 ≤ length lent
-    → Answers a (take (length lent - 4) (drop 4 lent)) n size action cells′ part
+pub as-udp : (a : Answer) {n size action missing front : ℕ} {cells′ lent part new : List ℕ} → 4 ≤ length lent
+    → Answers a (take (length lent - 4) (drop 4 lent)) n size action missing cells′ part
     → Put 0 (fitting 0 zeros (putMid 4 (length lent - 4) lent part)) (putMid 4 (length lent - 4) lent part) front new
-    → Serves (inForm datagram a) lent n (front + size) action cells′ new
+    → Serves (inForm datagram a) lent n (front + size) action missing cells′ new
 as-udp a {size = size} {front = front} {lent = lent} {part = part} {new = new} four h p =
     let mid : List ℕ = putMid 4 (length lent - 4) lent part in
     let long : 4 ≤ length mid =
@@ -155,6 +156,7 @@ as-udp a {size = size} {front = front} {lent = lent} {part = part} {new = new} f
       number = h .number;
       len = ap (λ k. k + size) (whole .next) ∙ w .len;
       acts = h .acts;
+      tells = h .tells;
       cells = h .cells;
       bytes = w .bytes;
     }
@@ -162,10 +164,10 @@ as-udp a {size = size} {front = front} {lent = lent} {part = part} {new = new} f
 pub front-short : (mid : List ℕ) {front : ℕ} {new : List ℕ} → Put 0 (fitting 0 zeros mid) mid front new → front ≤ 4
 front-short mid p = omega (arith, p .next, length-take (length mid - 0) zeros)
 
-pub reply-short : (a : Answer) → Sized (a .reply) → {out cells′ out′ : List ℕ} {n size action : ℕ} → Answers a out n size action cells′ out′ → size ≤ 256
+pub reply-short : (a : Answer) → Sized (a .reply) → {out cells′ out′ : List ℕ} {n size action missing : ℕ} → Answers a out n size action missing cells′ out′ → size ≤ 256
 reply-short a sized h = omega (arith, h .reply .next, sized .most)
 
 -- The reply of an answer lies within its 256 bytes.
-pub reply-within : (a : Answer) → Sized (a .reply) → {out cells′ out′ : List ℕ} {n size action : ℕ} → 256 ≤ length out
-    → Answers a out n size action cells′ out′ → size ≤ length out′
+pub reply-within : (a : Answer) → Sized (a .reply) → {out cells′ out′ : List ℕ} {n size action missing : ℕ} → 256 ≤ length out
+    → Answers a out n size action missing cells′ out′ → size ≤ length out′
 reply-within a sized room h = omega (arith, put-room (h .reply) 0 (omega (arith, sized .most, room)))

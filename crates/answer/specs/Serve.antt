@@ -14,21 +14,23 @@ use Rattle.tree.specs.Seen.{seen}
 use Rattle.cells.specs.Cells.{cellsForm, cellsIn}
 use Rattle.cells.specs.Lent.{isLent}
 
--- What a serving call gives: the number, what it writes to the front of the output, every byte of the cells, and the place of
--- the property whose action is to be taken.
+-- What a serving call gives: the number, what it writes to the front of the output, every byte of the cells, the place of the
+-- property whose action is to be taken, and (02, section 7) the length of the part of the path that no node has.
 pub record Service : Type 0 where
   pub number : ℕ
   pub written : List ℕ
   pub cells : List ℕ
   pub action : Option ℕ
+  pub missing : ℕ
 
 -- Rows 1 to 8: nothing is written, and no cell changes.
 abbrev pub rejected : List ℕ → ℕ → Service
-rejected cells n = record { number = n; written = []; cells = cells; action = none }
+rejected cells n = record { number = n; written = []; cells = cells; action = none; missing = 0 }
 
 -- An answer, its reply in the form of its transport.
 abbrev pub inForm : (List ℕ → List ℕ) → Answer → Service
-inForm form a = record { number = a .number; written = form (a .reply); cells = cellsForm (a .cells); action = a .action }
+inForm form a =
+    record { number = a .number; written = form (a .reply); cells = cellsForm (a .cells); action = a .action; missing = a .missing }
 
 -- The order of all serving calls: 1, 8, then the rows of what was received, then those of the answer.
 unfoldable pub serve : (List ℕ → List ℕ) → ℕ → ℕ → Received → Bool → List ℕ → List ℕ → Service
@@ -110,11 +112,12 @@ abbrev pub actionNumber : Option ℕ → ℕ
 actionNumber none = noAction
 actionNumber (some place) = place
 
--- What a serving call hands back and leaves: its number, the length of what it wrote, the action's property, every byte of the
--- cells and of the output.
-pub record Serves (what : Service) (out : List ℕ) (n size action : ℕ) (cells′ out′ : List ℕ) : Type 0 where
+-- What a serving call hands back and leaves: its number, the length of what it wrote, the action's property, the length of the part
+-- that no node has, every byte of the cells and of the output.
+pub record Serves (what : Service) (out : List ℕ) (n size action missing : ℕ) (cells′ out′ : List ℕ) : Type 0 where
   pub number : n ≡ what .number
   pub len : size ≡ length (what .written)
   pub acts : action ≡ actionNumber (what .action)
+  pub tells : missing ≡ what .missing
   pub cells : cells′ ≡ what .cells
   pub bytes : out′ ≡ over (what .written) out

@@ -8,6 +8,7 @@ use Rattle.protocol.specs.Numbers.{done, disabled, noAction, maxDepth}
 use Rattle.protocol.specs.Buffer.{Put}
 use Rattle.protocol.specs.Request.{Request, requestOf, Asked, allowance}
 use Rattle.protocol.specs.Tree.{Tree, Cell}
+use Rattle.protocol.specs.Path.{failureNumber}
 use Rattle.protocol.specs.Answer.{outcome, Answer, refuse, refusalCode, ifAsked}
 use Rattle.request.specs.declared.Asked as declared
 use Rattle.cells.specs.Cells.{cellsForm}
@@ -25,20 +26,22 @@ pub record Asks (a : declared.Asked) : Type 0 where
   pub short : a .len ≤ maxDepth
   pub allowed : allowance (requestIn a) ≡ done
 
--- What was read, answered: 9 first, then 10 and 11, then 12 or 13.
+-- What was read, answered: 9 first, then 10 and 11, then 15, 16, and 12 or 13.
 unfoldable pub answerAsked : Tree → List Cell → Bool → Asked → Answer
-answerAsked t cs true a = ifAsked outcome t cs a
+answerAsked t cs true a = ifAsked outcome failureNumber t cs a
 answerAsked t cs false a = refuse cs disabled
 
--- A refusal of rows 9 to 12, its code at the front of an output.
-pub record Refuses (number : ℕ) (out : List ℕ) (n size action : ℕ) (out′ : List ℕ) : Type 0 where
+-- A refusal, its code at the front of an output, and the length that it tells.
+pub record Refuses (number len : ℕ) (out : List ℕ) (n size action missing : ℕ) (out′ : List ℕ) : Type 0 where
   pub number-is : n ≡ number
   pub reply : Put 0 (refusalCode number ∷ []) out size out′
   pub acts : action ≡ noAction
+  pub tells : missing ≡ len
 
 -- What answering hands back and leaves, the reply at the front of an output.
-pub record Answers (a : Answer) (out : List ℕ) (n size action : ℕ) (cells′ out′ : List ℕ) : Type 0 where
+pub record Answers (a : Answer) (out : List ℕ) (n size action missing : ℕ) (cells′ out′ : List ℕ) : Type 0 where
   pub number : n ≡ a .number
   pub reply : Put 0 (a .reply) out size out′
   pub acts : action ≡ actionNumber (a .action)
+  pub tells : missing ≡ a .missing
   pub cells : cells′ ≡ cellsForm (a .cells)

@@ -21,12 +21,13 @@ ghost use Rattle.answer.specs.Serve.{serveData, serveSerial, serveUdp, S
 
 // A refusal of rows 1 to 8.
 fn rejected(number: u8) -> Served
-    ensures { λ r. ⌜ (r .number ≡ number) × ((r .len ≡ 0) × (r .action ≡ 255)) ⌝ }
+    ensures { λ r. ⌜ (r .number ≡ number) × ((r .len ≡ 0) × ((r .action ≡ 255) × (r .missing ≡ 0))) ⌝ }
 {
     Served {
         number,
         len: 0,
         action: NO_ACTION,
+        missing: 0,
     }
 }
 
@@ -43,7 +44,7 @@ fn lent_number(tree: &[u8], cells: &[u8], room: usize, least: usize) -> u8
     DONE
 }
 
-// Request data served: 1, 8, 4, 5, 9, 10, 11, 12, 13 or 0.
+// Request data served: 1, 8, 4, 5, 9, 10, 11, 15, 16, 12, 13 or 0.
 pub fn serve_data(
     tree: &[u8],
     cells: &mut [u8],
@@ -51,7 +52,7 @@ pub fn serve_data(
     request: &[u8],
     out: &mut [u8],
 ) -> Served
-    ensures { λ r. ⌜ Serves (serveData (length (now (out .entry))) (now (request .entry)) host (now (tree .entry)) (now (cells .entry))) (now (out .entry)) (r .number) (r .len) (r .action) (now (cells .exit)) (now (out .exit)) ⌝ }
+    ensures { λ r. ⌜ Serves (serveData (length (now (out .entry))) (now (request .entry)) host (now (tree .entry)) (now (cells .entry))) (now (out .entry)) (r .number) (r .len) (r .action) (r .missing) (now (cells .exit)) (now (out .exit)) ⌝ }
 {
     let lent = lent_number(tree, cells, out.len(), ROOM_DATA);
     if lent != DONE {
@@ -64,7 +65,7 @@ pub fn serve_data(
     answer::answer_asked(tree, cells, host, request::read::read_data(request), out)
 }
 
-// A serial string served for the box's address, which its reply carries: 1, 8, 2, 3, 4, 5, 6, 7, 9, 10, 11, 12, 13 or 0.
+// A serial string served for the box's address, which its reply carries: 1, 8, 2, 3, 4, 5, 6, 7, 9, 10, 11, 15, 16, 12, 13 or 0.
 pub fn serve_serial(
     tree: &[u8],
     cells: &mut [u8],
@@ -73,7 +74,7 @@ pub fn serve_serial(
     s: &[u8],
     out: &mut [u8],
 ) -> Served
-    ensures { λ r. ⌜ Serves (serveSerial address (length (now (out .entry))) (now (s .entry)) host (now (tree .entry)) (now (cells .entry))) (now (out .entry)) (r .number) (r .len) (r .action) (now (cells .exit)) (now (out .exit)) ⌝ }
+    ensures { λ r. ⌜ Serves (serveSerial address (length (now (out .entry))) (now (s .entry)) host (now (tree .entry)) (now (cells .entry))) (now (out .entry)) (r .number) (r .len) (r .action) (r .missing) (now (cells .exit)) (now (out .exit)) ⌝ }
 {
     let lent = lent_number(tree, cells, out.len(), ROOM_SERIAL);
     if lent != DONE {
@@ -92,10 +93,11 @@ pub fn serve_serial(
         number: served.number,
         len: framed.len,
         action: served.action,
+        missing: served.missing,
     }
 }
 
-// A datagram served, the reply built behind its four zero bytes: 1, 8, 2, 4, 5, 9, 10, 11, 12, 13 or 0.
+// A datagram served, the reply built behind its four zero bytes: 1, 8, 2, 4, 5, 9, 10, 11, 15, 16, 12, 13 or 0.
 pub fn serve_udp(
     tree: &[u8],
     cells: &mut [u8],
@@ -103,7 +105,7 @@ pub fn serve_udp(
     datagram: &[u8],
     out: &mut [u8],
 ) -> Served
-    ensures { λ r. ⌜ Serves (serveUdp (length (now (out .entry))) (now (datagram .entry)) host (now (tree .entry)) (now (cells .entry))) (now (out .entry)) (r .number) (r .len) (r .action) (now (cells .exit)) (now (out .exit)) ⌝ }
+    ensures { λ r. ⌜ Serves (serveUdp (length (now (out .entry))) (now (datagram .entry)) host (now (tree .entry)) (now (cells .entry))) (now (out .entry)) (r .number) (r .len) (r .action) (r .missing) (now (cells .exit)) (now (out .exit)) ⌝ }
 {
     let lent = lent_number(tree, cells, out.len(), ROOM_UDP);
     if lent != DONE {
@@ -120,6 +122,7 @@ pub fn serve_udp(
         number: served.number,
         len: front + served.len,
         action: served.action,
+        missing: served.missing,
     }
 }
 

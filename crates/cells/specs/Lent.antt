@@ -6,7 +6,7 @@ use mathlib.Core.List.{List}
 use mathlib.Core.Option.{Option, none, some}
 use lib.ListN.{length}
 use lib.Dec.{eqb, ltb}
-use Rattle.protocol.specs.Numbers.{done, unsound, badParameter, noReading}
+use Rattle.protocol.specs.Numbers.{done, unsound, noSuchProperty, noReading}
 use Rattle.protocol.specs.Tree.{propertyIn, cellIn, reading, restored, post}
 use Rattle.tree.specs.Seen.{seen}
 use Rattle.soundness.specs.Sound.{isTree}
@@ -53,8 +53,8 @@ abbrev pub readingOf : Option ℕ → Reading
 readingOf none = reading-is.Nothing
 readingOf (some n) = reading-is.Word n
 
--- House: a reading asked for by place, by 01's rows 1, 11 (no property has the place) and 12 (it has no number to read); else 0 and
--- the number.
+-- House: a reading asked for by place, by 01's rows 1 and 12 (it has no number to read), with 02, section 7's 16 (no property has the
+-- place) between them; else 0 and the number.
 pub record Read : Type 0 where
   pub number : ℕ
   pub word : Option ℕ
@@ -68,7 +68,7 @@ readIn tree cells place =
     cond (isLent tree cells)
     (cond (ltb place (length (seen tree .properties)))
     (readOf (reading (propertyIn (seen tree) place) (cellIn (cellsIn cells) place)))
-    (record { number = badParameter; word = none }))
+    (record { number = noSuchProperty; word = none }))
     (record { number = unsound; word = none })
 
 -- The word that is handed back; where there is none, what lay there stays.

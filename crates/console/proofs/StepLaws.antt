@@ -34,8 +34,8 @@ unfolding ifRoom
 roomed {room} h e = rw (le-ltb room roomSerial h) at e
 
 -- Data served, the reply framed, and both shown.
-pub lined : (s : Service) {room : ℕ} {reply reply′ wire wire′ cells′ old new : List ℕ} {n size action m count r : ℕ}
-    → Serves s reply n size action cells′ reply′ → roomSerial ≤ room
+pub lined : (s : Service) {room : ℕ} {reply reply′ wire wire′ cells′ old new : List ℕ} {n size action missing m count r : ℕ}
+    → Serves s reply n size action missing cells′ reply′ → roomSerial ≤ room
     → Emits (ifRoom roomSerial room (writeFrame benchAddress (take size reply′))) wire m count wire′
     → Put 0 (lines n (take count wire′)) old r new → ServesLines s old r cells′ new
 lined s {reply = reply} {wire = wire} {wire′} {old = old} {m = m} {count} {r} h room e p =

@@ -8,7 +8,7 @@ use mathlib.Core.List.{List, [], _∷_}
 use mathlib.Core.Option.{Option, none, some}
 use lib.ListN.{length, set}
 use lib.Dec.{ltb}
-use Rattle.protocol.specs.Numbers.{done, unsound, badParameter, noReading, notLive, wordEnd}
+use Rattle.protocol.specs.Numbers.{done, unsound, noSuchProperty, noReading, notLive, wordEnd}
 use Rattle.protocol.specs.Bytes.{Bytes, every}
 use Rattle.protocol.specs.Tree.{Property, Cell, isLive, propertyIn, cellIn, reading, unready, restored, Posting, posted, post}
 use Rattle.protocol.proofs.TestLaws.{and-left, and-right, and-both}
@@ -54,7 +54,7 @@ reading-kept tree cells place old {n} {word} h = go (isLent tree cells) (ltb pla
 
     given : Bool → Bool → Read
     given t u =
-        cond t (cond u (readOf (reading p c)) (record { number = badParameter; word = none })) (record { number = unsound; word = none })
+        cond t (cond u (readOf (reading p c)) (record { number = noSuchProperty; word = none })) (record { number = unsound; word = none })
 
     none-told : (m : ℕ) → (m ≡ done → ⊥) → n ≡ m → word ≡ old → ReadingKept tree cells place old n word
     none-told m u e f =
@@ -76,7 +76,7 @@ reading-kept tree cells place old {n} {word} h = go (isLent tree cells) (ltb pla
 
     go : (t u : Bool) → n ≡ given t u .number → word ≡ orElse old (given t u .word) → ReadingKept tree cells place old n word
     go true true e f = found (reading p c) refl e f
-    go true false e f = none-told badParameter (λ d. omega (arith, d)) e f
+    go true false e f = none-told noSuchProperty (λ d. omega (arith, d)) e f
     go false u e f = none-told unsound (λ d. omega (arith, d)) e f
 
 -- Restored cells.

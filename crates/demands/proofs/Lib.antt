@@ -9,4 +9,5 @@ pub mod Listing
 pub mod StrayDle
 pub mod Sheets
 pub mod StepSize
+pub mod PathParts
 pub mod Buslink

@@ -10,18 +10,20 @@ use borrow.Author.Tests.{eqb-false}
 use lib.ListN.{length, getD, take, drop}
 use lib.Seq.{drop-at}
 use lib.Dec.{eqb, ltb}
-use Rattle.protocol.specs.Numbers.{done, unsound, noRoom, disabled, noReading, notSaved, DISABLED, NAK, opWrite, saveFailed, saveDone, saveNone}
+use Rattle.protocol.specs.Numbers.{done, unsound, noRoom, disabled, noReading, notSaved, noSuchNode, noSuchProperty, DISABLED, NAK, opWrite, saveFailed, saveDone, saveNone}
 use Rattle.protocol.specs.Bytes.{Bytes, word, text}
 use Rattle.protocol.specs.Frame.{frame, datagram, wrap}
 use Rattle.protocol.specs.Buffer.{over}
 use Rattle.protocol.specs.Request.{Request}
 use Rattle.protocol.specs.Tree.{Tree, Cell, propertyIn, cellIn}
+use Rattle.protocol.specs.Path.{failureNumber, number01}
 use Rattle.protocol.specs.Answer.{Answer, plain, stored, Outcome, saved, taken, readOnly, outOfRange, offStep, outcome, saveByte, reason, writeNumber, actionOf, cellsAfter, echoIndexed, writeReply, refusalCode, onWrite, answer}
 use Rattle.protocol.proofs.BufferLaws.{over-nil, over-front}
 use Rattle.protocol.proofs.FrameLaws.{frame-injective, datagram-injective}
 use Rattle.protocol.proofs.AnswerLaws as laws
-use Rattle.protocol.proofs.AnswerLaws.{Answered, answered, refused, acknowledged, node-described, record-described, word-read, written, open-probe, cells-stay-sound, write-answered, write-accepted, write-holds, saved-done, others-stay, refusal-keeps}
+use Rattle.protocol.proofs.AnswerLaws.{Answered, answered, refused, no-node, no-property, acknowledged, node-described, record-described, word-read, written, open-probe, cells-stay-sound, write-answered, write-accepted, write-holds, saved-done, others-stay, refusal-keeps}
 use Rattle.protocol.proofs.RuleLaws.{host-off}
+use Rattle.protocol.proofs.PathLaws.{number-kept}
 use Rattle.cells.specs.Cells.{cellsForm, cellsIn}
 use Rattle.cells.specs.Lent.{isLent}
 use Rattle.cells.proofs.CellLaws.{cells-in-form, lent-form}
@@ -32,13 +34,12 @@ use Rattle.answer.proofs.ServeLaws.{answerTo, serve-by, serve-good}
 use Rattle.demands.specs.Serving.{treeIn, cellAt, AsksOpenProbe, WritesTo, SavesTo, outcomeIn, acceptedReply, Refusal, code, not-saved, Kept}
 use Rattle.demands.proofs.Forms.{cells-width, cells-sound-in}
 
--- What is assumed of a transport: rows 2 to 7 come before 9, no string is the form of two replies, and no form of a reply is empty.
+-- What is assumed of the form of a transport: no string is the form of two replies, and no form of a reply is empty.
 record Transport (k : Call) : Type 0 where
-  early : Early (k .string)
   injective : (x y : List ℕ) → k .form x ≡ k .form y → x ≡ y
   nonempty : (b : ℕ) (bs : List ℕ) → k .form (b ∷ bs) ≡ [] → ⊥
 
--- The number of an answer is 0 or one of rows 9 to 13, and with 13 a write is not saved.
+-- The number of an answer is 0, one of rows 9 to 13, 15 or 16, and with 13 a write is not saved.
 unsaved : (o : Outcome) → 0 < writeNumber o → (writeNumber o ≡ notSaved) × (saveByte o ≡ saveFailed)
 unfolding writeNumber saveByte
 unsaved saved h = absurd (omega arith)
@@ -48,8 +49,10 @@ unsaved outOfRange h = (refl, refl)
 unsaved offStep h = (refl, refl)
 
 late : (t : Tree) (cs : List Cell) (bs : List ℕ) {a : Answer} → Answered t cs bs a → 0 < a .number → disabled ≤ a .number
-unfolding onWrite
-late t cs bs (refused n h k) p = h
+unfolding onWrite failureNumber
+late t cs bs (refused n h k s) p = h
+late t cs bs (no-node r e h u) p = omega arith
+late t cs bs (no-property r node e h u v) p = omega arith
 late t cs bs acknowledged p = absurd (omega arith)
 late t cs bs (node-described r node e) p = absurd (omega arith)
 late t cs bs (record-described r place e) p = absurd (omega arith)
@@ -103,7 +106,7 @@ written-on k on r place w =
     ∙ write-answered (treeIn k) (cellsIn (k .cells)) (k .string .payload) r place w
 
 -- A call that answers with 0, by whatever transport: it gives the answer, host functions are on, and a write is answered by its outcome.
-module _ (k : Call) {out cells′ out′ : List ℕ} {n size action : ℕ} (h : Serves (serving k) out n size action cells′ out′) (d : n ≡ done) where
+module _ (k : Call) {out cells′ out′ : List ℕ} {n size action missing : ℕ} (h : Serves (serving k) out n size action missing cells′ out′) (d : n ≡ done) where
   pub done-answered : n ≡ answerTo k .number
   done-answered = go (isLent (k .tree) (k .cells)) (ltb (k .room) (k .least)) (eqb (k .string .number) done) refl refl refl
     where
@@ -133,8 +136,9 @@ module _ (k : Call) {out cells′ out′ : List ℕ} {n size action : ℕ} (h : 
       → answerTo k ≡ onWrite (cellsIn (k .cells)) place r (outcomeIn k r place)
   done-written r place w = written-on k done-enabled r place w
 
-module _ (k : Call) (transport : Transport k) {out cells′ out′ : List ℕ} {n size action : ℕ}
-    (h : Serves (serving k) out n size action cells′ out′)
+-- A call by a transport whose rows 2 to 7 come before 9.
+module _ (k : Call) (early : Early (k .string)) {out cells′ out′ : List ℕ} {n size action missing : ℕ}
+    (h : Serves (serving k) out n size action missing cells′ out′)
   where
     abbrev t : Tree
     t = treeIn k
@@ -146,42 +150,44 @@ module _ (k : Call) (transport : Transport k) {out cells′ out′ : List ℕ} {
     bs = k .string .payload
 
     -- A call is refused with one of rows 1 to 8, or gives the answer.
-    record NotServed : Type 0 where
-      some-row : 0 < n
-      early : n < disabled
-      same-cells : cells′ ≡ k .cells
-      same-output : out′ ≡ out
-      nothing : take size out′ ≡ []
+    pub record NotServed : Type 0 where
+      pub some-row : 0 < n
+      pub before : n < disabled
+      pub same-cells : cells′ ≡ k .cells
+      pub same-output : out′ ≡ out
+      pub nothing : take size out′ ≡ []
+      pub no-part : missing ≡ 0
 
-    record Served : Type 0 where
-      lent : isLent (k .tree) (k .cells) ≡ true
-      gives : Serves (inForm (k .form) (answerTo k)) out n size action cells′ out′
+    pub record Served : Type 0 where
+      pub lent : isLent (k .tree) (k .cells) ≡ true
+      pub gives : Serves (inForm (k .form) (answerTo k)) out n size action missing cells′ out′
 
     refuses : (m : ℕ) → 0 < m → m < disabled → serving k ≡ rejected (k .cells) m → NotServed
     refuses m p q e =
-        let s : Serves (rejected (k .cells) m) out n size action cells′ out′ = subst (λ w. Serves w out n size action cells′ out′) e h in
+        let s : Serves (rejected (k .cells) m) out n size action missing cells′ out′ = subst (λ w. Serves w out n size action missing cells′ out′) e h in
         record {
           some-row = omega (arith, s .number);
-          early = omega (arith, s .number);
+          before = omega (arith, s .number);
           same-cells = s .cells;
           same-output = s .bytes ∙ over-nil out;
           nothing = over-front [] out (s .len) (s .bytes);
+          no-part = s .tells;
         }
 
     serves : isLent (k .tree) (k .cells) ≡ true → serving k ≡ inForm (k .form) (answerTo k) → Served
-    serves l e = record { lent = l; gives = subst (λ w. Serves w out n size action cells′ out′) e h }
+    serves l e = record { lent = l; gives = subst (λ w. Serves w out n size action missing cells′ out′) e h }
 
-    handled : {A : Type 0} → (NotServed → A) → (Served → A) → A
+    pub handled : {A : Type 0} → (NotServed → A) → (Served → A) → A
     handled {A} f g = go (isLent (k .tree) (k .cells)) (ltb (k .room) (k .least)) (eqb (k .string .number) done) refl refl refl
       where
         go : (a b c : Bool) → isLent (k .tree) (k .cells) ≡ a → ltb (k .room) (k .least) ≡ b → eqb (k .string .number) done ≡ c → A
         go true true c p q r = f (refuses noRoom (omega arith) (omega arith) (serve-by k true true c p q r))
         go true false true p q r = g (serves p (serve-by k true false true p q r))
         go true false false p q r =
-            f (refuses (k .string .number) (omega (arith, eqb-false (k .string .number) done r)) (transport .early .early) (serve-by k true false false p q r))
+            f (refuses (k .string .number) (omega (arith, eqb-false (k .string .number) done r)) (early .early) (serve-by k true false false p q r))
         go false b c p q r = f (refuses unsound (omega arith) (omega arith) (serve-by k false b c p q r))
 
-    opened : Open k → k .string .number ≡ done → Served
+    pub opened : Open k → k .string .number ≡ done → Served
     opened o good = serves (o .lent) (serve-good k o good)
 
     -- Host functions are on or off.
@@ -193,7 +199,7 @@ module _ (k : Call) (transport : Transport k) {out cells′ out′ : List ℕ} {
         go false e = g e
 
     -- What a served call gives: its cells, as they are read, and what was written.
-    unchanged : Served → answerTo k .cells ≡ cs → cells′ ≡ k .cells
+    pub unchanged : Served → answerTo k .cells ≡ cs → cells′ ≡ k .cells
     unchanged s e = s .gives .cells ∙ ap cellsForm e ∙ sym (lent-form (k .tree) (k .cells) (s .lent))
 
     cells-after : Bytes (k .cells) → Served → cellsIn cells′ ≡ answerTo k .cells
@@ -204,8 +210,8 @@ module _ (k : Call) (transport : Transport k) {out cells′ out′ : List ℕ} {
     sent : Served → take size out′ ≡ k .form (answerTo k .reply)
     sent s = over-front (k .form (answerTo k .reply)) out (s .gives .len) (s .gives .bytes)
 
-    replied : Served → (reply : List ℕ) → take size out′ ≡ k .form reply → answerTo k .reply ≡ reply
-    replied s reply e =
+    replied : Transport k → Served → (reply : List ℕ) → take size out′ ≡ k .form reply → answerTo k .reply ≡ reply
+    replied transport s reply e =
         transport .injective (answerTo k .reply) reply (sym (sent s) ∙ e)
 
     -- A code alone.
@@ -215,10 +221,15 @@ module _ (k : Call) (transport : Transport k) {out cells′ out′ : List ℕ} {
         let is : answerTo k ≡ plain cs m (c ∷ []) = ap (λ x. answer t cs x bs) on ∙ e in
         (s .gives .number ∙ ap (λ a. a .number) is, s .gives .bytes ∙ ap (λ a. over (k .form (a .reply)) out) is)
 
-    -- A refusal of rows 9 to 13.
+    -- A code, to a number that document 01 has among rows 9 to 12; a refusal of rows 9 to 13, 15 or 16.
+    coded : (m : ℕ) → number01 m ≤ noReading → n ≡ m → out′ ≡ over (k .form (refusalCode m ∷ [])) out → Refusal k n out out′
+    coded m v e w = code (omega (arith, ap number01 e)) (w ∙ ap (λ i. over (k .form (refusalCode i ∷ [])) out) (sym e))
+
     refusal : disabled ≤ n → {a : Answer} → Answered t cs bs a → n ≡ a .number → out′ ≡ over (k .form (a .reply)) out → Refusal k n out out′
-    unfolding onWrite
-    refusal p (refused m u v) e w = code (omega (arith, e)) (w ∙ ap (λ i. over (k .form (refusalCode i ∷ [])) out) (sym e))
+    unfolding onWrite failureNumber number01
+    refusal p (refused m u v x) e w = coded m (omega (arith, number-kept m (omega (arith, v)))) e w
+    refusal p (no-node r x y z) e w = coded noSuchNode (omega arith) e w
+    refusal p (no-property r node x y z u) e w = coded noSuchProperty (omega arith) e w
     refusal p acknowledged e w = absurd (omega (arith, p))
     refusal p (node-described r node x) e w = absurd (omega (arith, p))
     refusal p (record-described r place x) e w = absurd (omega (arith, p))
@@ -233,16 +244,16 @@ module _ (k : Call) (transport : Transport k) {out cells′ out′ : List ℕ} {
         ap (λ x. cellIn x place) (cells-after all s ∙ ap (λ b. answer t cs b bs .cells) on)
         ∙ write-holds t cs bs place value (cells-sound-in (k .tree) (k .cells) all (s .lent)) w
 
-    save-given : Served → n ≡ done → (r : Request) (place save : ℕ) → WritesTo k r place → take size out′ ≡ k .form (acceptedReply r save)
+    save-given : Transport k → Served → n ≡ done → (r : Request) (place save : ℕ) → WritesTo k r place → take size out′ ≡ k .form (acceptedReply r save)
         → saveByte (outcomeIn k r place) ≡ save
     unfolding onWrite
-    save-given s d r place save w e =
+    save-given transport s d r place save w e =
         save-byte (outcomeIn k r place) r save
-        (ap (λ a. a .reply) (sym (done-written k h d r place w)) ∙ replied s (acceptedReply r save) e)
+        (ap (λ a. a .reply) (sym (done-written k h d r place w)) ∙ replied transport s (acceptedReply r save) e)
 
-    kept : Kept k out n size action cells′ out′
+    kept : Transport k → Kept k out n size action cells′ out′
     unfolding onWrite actionOf cellsAfter
-    kept =
+    kept transport =
         record {
           rows-1-to-8 = λ p q. handled
               (λ r. (r .same-cells, r .same-output))
@@ -273,14 +284,14 @@ module _ (k : Call) (transport : Transport k) {out cells′ out′ : List ℕ} {
           save-01 = λ all d r place w e. handled
               (λ x. absurd (omega arith))
               (λ s.
-              let is : outcomeIn k r place ≡ saved = save-saved (outcomeIn k r place) (save-given s d r place saveDone w e) in (
+              let is : outcomeIn k r place ≡ saved = save-saved (outcomeIn k r place) (save-given transport s d r place saveDone w e) in (
                 saved-cell all s (done-enabled k h d) place (r .value) (record { request = r; writes = w; saves = is; sent = refl }),
                 s .gives .acts ∙ ap (λ a. actionNumber (a .action)) (done-written k h d r place w ∙ ap (onWrite cs place r) is),
               ));
           save-02 = λ d r place w e. handled
               (λ x. absurd (omega arith))
               (λ s.
-              let is : outcomeIn k r place ≡ taken = save-taken (outcomeIn k r place) (save-given s d r place saveNone w e) in
+              let is : outcomeIn k r place ≡ taken = save-taken (outcomeIn k r place) (save-given transport s d r place saveNone w e) in
               let a : answerTo k ≡ onWrite cs place r taken = done-written k h d r place w ∙ ap (onWrite cs place r) is in
               (unchanged s (ap (λ x. x .cells) a), s .gives .acts ∙ ap (λ x. actionNumber (x .action)) a));
           open-probes = λ a. handled
@@ -291,19 +302,18 @@ module _ (k : Call) (transport : Transport k) {out cells′ out′ : List ℕ} {
           open-probes-58 = λ a o good on. code-given (opened o good) true noReading NAK on (asked-58 k a);
           never-busy = λ xs e. handled
               (λ r. transport .nonempty _ xs (sym e ∙ r .nothing))
-              (λ s. laws.never-busy t cs (k .host) bs (ap (λ l. getD l 0 0) (replied s (_ ∷ xs) e)));
+              (λ s. laws.never-busy t cs (k .host) bs (ap (λ l. getD l 0 0) (replied transport s (_ ∷ xs) e)));
         }
 
 -- By each transport: what `serve_data`, `serve_serial` and `serve_udp` promise keeps demands 1 and 2.
 module _ (room : ℕ) (s : List ℕ) (host : Bool) (tree cells : List ℕ) where
   data-transport : Transport (dataCall room s host tree cells)
-  data-transport = record { early = early-sized s; injective = λ x y e. e; nonempty = λ b bs e. absurd (omega (arith, ap length e)) }
+  data-transport = record { injective = λ x y e. e; nonempty = λ b bs e. absurd (omega (arith, ap length e)) }
 
   serial-transport : (address : ℕ) → Transport (serialCall address room s host tree cells)
   unfolding frame wrap
   serial-transport address =
       record {
-        early = early-frame address s;
         injective = λ x y e. frame-injective address address x y e .1;
         nonempty = λ b bs e. absurd (omega (arith, ap length e));
       }
@@ -311,17 +321,17 @@ module _ (room : ℕ) (s : List ℕ) (host : Bool) (tree cells : List ℕ) where
   udp-transport : Transport (udpCall room s host tree cells)
   unfolding datagram
   udp-transport =
-      record { early = early-datagram s; injective = datagram-injective; nonempty = λ b bs e. absurd (omega (arith, ap length e)) }
+      record { injective = datagram-injective; nonempty = λ b bs e. absurd (omega (arith, ap length e)) }
 
-  module _ {out cells′ out′ : List ℕ} {n size action : ℕ} where
-    pub data-kept : Serves (serveData room s host tree cells) out n size action cells′ out′
+  module _ {out cells′ out′ : List ℕ} {n size action missing : ℕ} where
+    pub data-kept : Serves (serveData room s host tree cells) out n size action missing cells′ out′
         → Kept (dataCall room s host tree cells) out n size action cells′ out′
-    data-kept h = kept (dataCall room s host tree cells) data-transport h
+    data-kept h = kept (dataCall room s host tree cells) (early-sized s) h data-transport
 
-    pub serial-kept : (address : ℕ) → Serves (serveSerial address room s host tree cells) out n size action cells′ out′
+    pub serial-kept : (address : ℕ) → Serves (serveSerial address room s host tree cells) out n size action missing cells′ out′
         → Kept (serialCall address room s host tree cells) out n size action cells′ out′
-    serial-kept address h = kept (serialCall address room s host tree cells) (serial-transport address) h
+    serial-kept address h = kept (serialCall address room s host tree cells) (early-frame address s) h (serial-transport address)
 
-    pub udp-kept : Serves (serveUdp room s host tree cells) out n size action cells′ out′
+    pub udp-kept : Serves (serveUdp room s host tree cells) out n size action missing cells′ out′
         → Kept (udpCall room s host tree cells) out n size action cells′ out′
-    udp-kept h = kept (udpCall room s host tree cells) udp-transport h
+    udp-kept h = kept (udpCall room s host tree cells) (early-datagram s) h udp-transport

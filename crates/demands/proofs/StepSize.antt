@@ -14,6 +14,7 @@ use Rattle.protocol.specs.Buffer.{over}
 use Rattle.protocol.specs.Request.{Request}
 use Rattle.protocol.specs.Tree.{Property, Tree, Cell, canRead, canWrite, isSigned, stepCode, propertyIn, cellIn, standardSound, enumerationSound, kindSound, propertySound, nodesSound, propertiesSound, sound}
 use Rattle.protocol.specs.Step.{onStep}
+use Rattle.protocol.specs.Path.{failureNumber}
 use Rattle.protocol.specs.Answer.{inRange, Outcome, saved, taken, readOnly, outOfRange, offStep, outcome, writeNumber, cellsAfter, writeReply, onWrite}
 use Rattle.protocol.specs.Sheet.{isSetting, mayHold, inRanges}
 use Rattle.protocol.proofs.TestLaws.{and-left, and-right, and-both, every-at, every-same}
@@ -46,12 +47,12 @@ saved-allowed p v s readOnly e n = absurd (omega (arith, n))
 saved-allowed p v s outOfRange e n = absurd (omega (arith, n))
 saved-allowed p v s offStep e n = absurd (omega (arith, n))
 
-module _ (k : Call) {out cells′ out′ : List ℕ} {n size action : ℕ} (h : Serves (serving k) out n size action cells′ out′) where
+module _ (k : Call) {out cells′ out′ : List ℕ} {n size action missing : ℕ} (h : Serves (serving k) out n size action missing cells′ out′) where
   abbrev cs : List Cell
   cs = cellsIn (k .cells)
 
   abbrev Given : Service → Type 0
-  Given what = Serves what out n size action cells′ out′
+  Given what = Serves what out n size action missing cells′ out′
 
   -- Off its step.
   module _ (o : Open k) (good : k .string .number ≡ done) (on : k .host ≡ true) (r : Request) (place : ℕ) (w : WritesTo k r place)
@@ -155,7 +156,7 @@ module _ (t : Tree) (h : every isByOne (t .properties) ≡ true) where
   as-before =
       record {
         rules = sound-before;
-        answers = λ cs host bs. same-answers outcome outcome01 t (λ place v. outcome-before (propertyIn t place) (by-one place) v) cs host bs;
+        answers = λ cs host bs. same-answers outcome outcome01 t (λ place v. outcome-before (propertyIn t place) (by-one place) v) failureNumber cs host bs;
         settings = λ k v. holds-before (propertyIn t k) (by-one k) v;
       }
 

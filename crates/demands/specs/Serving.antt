@@ -11,6 +11,7 @@ use Rattle.protocol.specs.Bytes.{Bytes, word, text}
 use Rattle.protocol.specs.Buffer.{over}
 use Rattle.protocol.specs.Request.{Request}
 use Rattle.protocol.specs.Tree.{Tree, Cell, isLive, propertyIn, cellIn}
+use Rattle.protocol.specs.Path.{number01}
 use Rattle.protocol.specs.Answer.{Finds, ReadAs, Writes, Saves, stored, Outcome, outcome, saveByte, echoIndexed, writeReply, refusalCode}
 use Rattle.tree.specs.Seen.{seen}
 use Rattle.cells.specs.Cells.{cellsIn}
@@ -47,10 +48,10 @@ outcomeIn k r place = outcome (propertyIn (treeIn k) place) (r .value)
 unfoldable pub acceptedReply : Request → ℕ → List ℕ
 acceptedReply r save = echoIndexed r ++ 0 ∷ (word (r .value) ++ save ∷ cond (eqb (r .op) opWrite) [] (text []))
 
--- How the refusals of rows 9 to 13 answer: with the code of the row; or, to a write that is not saved, with save 00 and, for op 5,
--- the reason that the property it names gives.
+-- How the refusals of rows 9 to 13 answer, and those of 15 and 16, which document 01 has as 11: with the code of the row; or, to a
+-- write that is not saved, with save 00 and, for op 5, the reason that the property it names gives.
 pub data Refusal (k : Call) (n : ℕ) (out out′ : List ℕ) : Type 0 where
-  code : n ≤ noReading → out′ ≡ over (k .form (refusalCode n ∷ [])) out → Refusal k n out out′
+  code : number01 n ≤ noReading → out′ ≡ over (k .form (refusalCode n ∷ [])) out → Refusal k n out out′
   not-saved : (r : Request) (place : ℕ) → WritesTo k r place → n ≡ notSaved → saveByte (outcomeIn k r place) ≡ saveFailed
       → out′ ≡ over (k .form (writeReply (outcomeIn k r place) r)) out → Refusal k n out out′
 
@@ -58,7 +59,7 @@ pub data Refusal (k : Call) (n : ℕ) (out out′ : List ℕ) : Type 0 where
 pub record Kept (k : Call) (out : List ℕ) (n size action : ℕ) (cells′ out′ : List ℕ) : Type 0 where
   -- Demand 1: refusals 1 to 8 change no reading, setting or output byte.
   pub rows-1-to-8 : 0 < n → n < disabled → (cells′ ≡ k .cells) × (out′ ≡ out)
-  -- Demand 1: refusals 9 to 13 change no reading or setting, and write exactly the reply of their row.
+  -- Demand 1: refusals 9 to 13, and so 15 and 16, change no reading or setting, and write exactly the reply of their row.
   pub rows-9-to-13 : disabled ≤ n → (cells′ ≡ k .cells) × Refusal k n out out′
   -- Demand 2: no request alters anything but the setting that an accepted write names.
   pub others : Bytes (k .cells) → (place : ℕ) → ((value : ℕ) → SavesTo k place value → ⊥)

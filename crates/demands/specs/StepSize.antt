@@ -11,6 +11,7 @@ use Rattle.protocol.specs.Buffer.{over}
 use Rattle.protocol.specs.Request.{Request}
 use Rattle.protocol.specs.Tree.{Property, Tree, Cell, canRead, canWrite, isSigned, stepCode, propertyIn, cellIn, isName, liveSound, enumerationSound, optionsSound, widthsSound, nodesSound, sound}
 use Rattle.protocol.specs.Step.{onStep}
+use Rattle.protocol.specs.Path.{failureNumber}
 use Rattle.protocol.specs.Answer.{inRange, Outcome, saved, taken, readOnly, outOfRange, offStep, writeReply, answerBy, answer}
 use Rattle.protocol.specs.Sheet.{isSetting, mayHold}
 use Rattle.tree.specs.Seen.{seen}
@@ -65,11 +66,11 @@ isByOne p = cond (eqb (p .kind) standard) (eqb (stepCode p) 0) true
 -- A tree is sound, data is answered, and settings may hold words, as before.
 pub record AsBefore (t : Tree) : Type 0 where
   pub rules : sound t ≡ sound01 t
-  pub answers : (cs : List Cell) (host : Bool) (bs : List ℕ) → answer t cs host bs ≡ answerBy outcome01 t cs host bs
+  pub answers : (cs : List Cell) (host : Bool) (bs : List ℕ) → answer t cs host bs ≡ answerBy outcome01 failureNumber t cs host bs
   pub settings : (k v : ℕ) → mayHold (propertyIn t k) v ≡ inRange (propertyIn t k) v
 
 pub record StepsKeep : Type 0 where
-  pub served : (k : Call) {out cells′ out′ : List ℕ} {n size action : ℕ} → Serves (serving k) out n size action cells′ out′
+  pub served : (k : Call) {out cells′ out′ : List ℕ} {n size action missing : ℕ} → Serves (serving k) out n size action missing cells′ out′
       → StepServed k out n cells′ out′
   -- Once a sheet is read, every setting holds a word in range and on its step.
   pub loaded : (tree cells bs : List ℕ) {cells′ : List ℕ} → Bytes cells → isLent tree cells ≡ true → ReadsSheet tree cells bs done cells′
@@ -77,4 +78,4 @@ pub record StepsKeep : Type 0 where
   -- With step 1 nothing changes: of a tree, and of a serving call over its bytes that is refused with none of rows 1 to 8.
   pub step-1 : (t : Tree) → every isByOne (t .properties) ≡ true → AsBefore t
   pub step-1-served : (k : Call) → every isByOne (treeIn k .properties) ≡ true → Open k → k .string .number ≡ done
-      → serving k ≡ inForm (k .form) (answerBy outcome01 (treeIn k) (cellsIn (k .cells)) (k .host) (k .string .payload))
+      → serving k ≡ inForm (k .form) (answerBy outcome01 failureNumber (treeIn k) (cellsIn (k .cells)) (k .host) (k .string .payload))

@@ -1,4 +1,4 @@
--- Lookups: the records of a table that name a node, by their number and counted; the node of a path.
+-- Lookups: the records of a table that name a node, by their number and counted.
 -- Assumes nothing.
 use Prim.Native.Nat.{ℕ, zero, suc, _+_, _-_, _*_, _<_, _≤_}
 use native.Mathlib.Omega.{arith}
@@ -7,12 +7,11 @@ use mathlib.Core.Path.{_≡_, refl, sym, ap, ap₂, subst, _∙_}
 use mathlib.Core.Bool.{Bool, true, false, cond}
 use mathlib.Core.List.{List, [], _∷_, _++_}
 use mathlib.Core.Option.{none, some}
-use borrow.Author.Tests.{eq-eqb, ne-eqb}
 use lib.ListN.{length, getD, drop, length-append, drop-of-length-le}
 use lib.Seq.{drop-cons}
 use lib.Dec.{eqb}
 use Rattle.protocol.specs.Bytes.{Bytes}
-use Rattle.protocol.specs.Tree.{Tree, placesFrom, numbered, childrenOf, propertiesOf, childOf, descend, nodeAt}
+use Rattle.protocol.specs.Tree.{placesFrom, numbered, childrenOf, propertiesOf}
 use Rattle.tree.specs.Seen.{recordsFrom, seen, nodeSeen, propertySeen}
 use Rattle.tree.proofs.RecordLaws.{records-length, first-at, records-drop, records-places}
 use Rattle.lookup.specs.declared.Table.{Table}
@@ -187,48 +186,3 @@ children-small bs all e = subst Small (sym e) (omega arith, (omega arith, all 0)
 
 pub properties-small : (bs : List ℕ) {table : Table} → Bytes bs → table ≡ propertiesTable bs → Small table
 properties-small bs all e = subst Small (sym e) (omega (arith, all 0), (omega arith, all 1))
-
--- A path is walked: what it leads to is what the numbers that are left lead to from a node.
-pub record Walking (t : Tree) (path : List ℕ) (place i : ℕ) : Type 0 where
-  pub unchanged : nodeAt t path ≡ descend t place (drop i path)
-
-pub walk-empty : (t : Tree) (path : List ℕ) → length path < 1 → nodeAt t path ≡ none
-unfolding nodeAt
-walk-empty t [] h = refl
-walk-empty t (n ∷ ns) h = absurd (omega (arith, h))
-
-pub walk-other : (t : Tree) (path : List ℕ) → (getD path 0 0 ≡ 1 → ⊥) → nodeAt t path ≡ none
-unfolding nodeAt
-walk-other t [] h = refl
-walk-other t (n ∷ ns) h = ap (λ b. cond b (descend t 0 ns) none) (ne-eqb n 1 h)
-
-pub walk-begins : (t : Tree) (path : List ℕ) → getD path 0 0 ≡ 1 → Walking t path 0 1
-unfolding nodeAt
-walk-begins t [] h = absurd (omega (arith, h))
-walk-begins t (n ∷ ns) h = record { unchanged = ap (λ b. cond b (descend t 0 ns) none) (eq-eqb n 1 h) }
-
--- One number of a path.
-module _ (t : Tree) (place n : ℕ) (ns : List ℕ) where
-  descend-lost : childOf t place (record { 0 = n }) ≡ none → descend t place (n ∷ ns) ≡ none
-  unfolding descend
-  descend-lost e = rw (e, descend)
-
-  descend-more : {next : ℕ} → childOf t place (record { 0 = n }) ≡ some next → descend t place (n ∷ ns) ≡ descend t next ns
-  unfolding descend
-  descend-more e = rw (e, descend)
-
-module _ (t : Tree) (path : List ℕ) {place i : ℕ} (w : Walking t path place i) where
-  walk-step : i < length path → nodeAt t path ≡ descend t place (getD path i 0 ∷ drop (i + 1) path)
-  walk-step h =
-      w .unchanged ∙ ap (descend t place) (drop-cons path i 0 h ∙ ap (λ n. getD path i 0 ∷ drop n path) (sym (add-one i)))
-
-  pub walk-lost : i < length path → childOf t place (record { 0 = getD path i 0 }) ≡ none → nodeAt t path ≡ none
-  walk-lost h e = walk-step h ∙ descend-lost t place (getD path i 0) (drop (i + 1) path) e
-
-  pub walk-more : {next : ℕ} → i < length path → childOf t place (record { 0 = getD path i 0 }) ≡ some next
-      → Walking t path next (i + 1)
-  walk-more h e = record { unchanged = walk-step h ∙ descend-more t place (getD path i 0) (drop (i + 1) path) e }
-
-  pub walk-ends : length path ≤ i → nodeAt t path ≡ some place
-  unfolding descend
-  walk-ends h = w .unchanged ∙ ap (descend t place) (drop-of-length-le path {i = i} h)

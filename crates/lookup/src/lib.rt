@@ -13,9 +13,11 @@ ghost use lib.ListN.{length, getD};
 ghost use mathlib.Core.Bool.{cond};
 ghost use lib.Dec.{eqb};
 ghost use Rattle.protocol.specs.Tree.{numbered, childrenOf, propertiesOf, childOf, propertyOf, nodeAt};
+ghost use Rattle.protocol.specs.Path.{missingLength};
 ghost use Rattle.tree.specs.Seen.{seen};
 ghost use Rattle.tree.specs.Lookup.{foundOf};
 ghost use Rattle.lookup.specs.Find.{belonging, childrenTable, propertiesTable};
+ghost use Rattle.lookup.specs.Reach.{reachedOf};
 
 // Records of one size, and which of them are looked at: from one place in the list to an end.
 pub(crate) struct Table {
@@ -121,24 +123,30 @@ pub fn properties(tree: &[u8], node: usize) -> u8
     count_in(tree, properties_table(tree), node)
 }
 
+// What a path leads to: the place of its node, or the length of its shortest front part that no node has.
+pub enum Reached {
+    At(usize),
+    Missing(usize),
+}
+
 // The node of a path: the device, whose path is 1, then child after child.
-pub fn node(tree: &[u8], path: &[u8]) -> Found
-    ensures { λ r. ⌜ r ≡ foundOf (nodeAt (seen (now (tree .entry))) (now (path .entry))) ⌝ }
+pub fn node(tree: &[u8], path: &[u8]) -> Reached
+    ensures { λ r. ⌜ r ≡ reachedOf (nodeAt (seen (now (tree .entry))) (now (path .entry))) (missingLength (seen (now (tree .entry))) (now (path .entry))) ⌝ }
 {
     if path.len() < 1 {
-        return Found::Nothing;
+        return Reached::Missing(0);
     }
     if path[0] != 1 {
-        return Found::Nothing;
+        return Reached::Missing(1);
     }
     let mut place = 0;
     let mut i = 1;
     while i < path.len() {
         let Found::At(next) = child(tree, place, NodeNumber(path[i])) else {
-            return Found::Nothing;
+            return Reached::Missing(i + 1);
         };
         place = next;
         i += 1;
     }
-    Found::At(place)
+    Reached::At(place)
 }

@@ -10,12 +10,13 @@ use borrow.Author.Tests.{eqb-true, eqb-false, leb-true, lt-ltb, ne-eqb}
 use lib.ListN.{length, getD, drop, getElem?, set, length-append, length-set}
 use lib.Seq.{getD-set-same, getD-set-other}
 use lib.Dec.{eqb, ltb, leb}
-use Rattle.protocol.specs.Numbers.{done, unknownCommand, disabled, badParameter, noReading, PDI, BUSY, ACK, NAK, opDetect, opNode, opRecord, opRead, opWrite, opWriteExtended, maxDepth, maxName, maxTexts, maxNodes, maxProperties, wordEnd}
+use Rattle.protocol.specs.Numbers.{done, unknownCommand, disabled, badParameter, noReading, noSuchNode, noSuchProperty, PDI, BUSY, ACK, NAK, opDetect, opNode, opRecord, opRead, opWrite, opWriteExtended, maxDepth, maxName, maxTexts, maxNodes, maxProperties, wordEnd}
 use Rattle.protocol.specs.Bytes.{every, half, word, text, texts}
 use Rattle.protocol.specs.Frame.{Sized}
 use Rattle.protocol.specs.Request.{Request, Asked, asksIndex, asksValue, fits, askedIf, declined, beforeZero, readIndexed, readValued, readShape, readRequest}
 use Rattle.protocol.specs.Tree.{Node, Property, Tree, Cell, isLive, isText, isName, kindSound, liveSound, widthsSound, placesFrom, numbered, propertiesOf, propertyOf, nodeAt, nodeIn, propertyIn, cellIn, cellsSound, depthsSound, parentsSound, optionsSound, propertySound, nodesSound, propertiesSound, sound, readable}
-use Rattle.protocol.specs.Answer.{Finds, ReadAs, Writes, Saves, Outcome, saved, taken, readOnly, outOfRange, offStep, outcome, reason, writeNumber, stored, cellsAfter, echo, echoIndexed, nodeReply, recordReply, readReply, writeReply, Answer, plain, refuse, refusalCode, onRead, onWrite, onProperty, ifProperty, ifNode, perform, ifAsked, answerBy, answer}
+use Rattle.protocol.specs.Path.{missingLength, Failure, noNode, noProperty, failureNumber}
+use Rattle.protocol.specs.Answer.{Finds, ReadAs, Writes, Saves, Outcome, saved, taken, readOnly, outOfRange, offStep, outcome, reason, writeNumber, stored, cellsAfter, echo, echoIndexed, nodeReply, recordReply, readReply, writeReply, Answer, plain, refuse, failed, refusalCode, onRead, onWrite, onProperty, ifProperty, ifNode, perform, ifAsked, answerBy, answer}
 use Rattle.protocol.proofs.TestLaws.{and-left, and-right, and-both, if-both, if-case, every-at, every-set, every-weaker}
 use Rattle.protocol.proofs.RequestLaws.{path-most, value-fits}
 use Rattle.protocol.proofs.RuleLaws.{not-readable}
@@ -197,13 +198,18 @@ property-below t node index place h =
 pub finds-below : (t : Tree) (r : Request) (place : ℕ) → Finds t r place → place < length (t .properties)
 finds-below t r place f = property-below t (f .node) (r .index) place (f .atProperty)
 
-read-fits : (bs : List ℕ) (r : Request) → ReadAs bs r → fits r ≡ true
+pub read-fits : (bs : List ℕ) (r : Request) → ReadAs bs r → fits r ≡ true
 read-fits bs r asks = ap (λ a. fits (a .request)) (sym asks) ∙ readRequest-fits bs .fit (ap (λ a. a .number) asks)
 
--- How data is answered: a code of rows 9 to 12, a reply with 0, or what a write to a property comes to. Only the last may
--- change a cell.
+-- How data is answered: a code of rows 9 to 12, 11 for its shape alone, a lookup that fails, a reply with 0, or what a write to a property comes to. Only the
+-- last may change a cell.
 pub data Answered (t : Tree) (cs : List Cell) (bs : List ℕ) : Answer → Type 0 where
-  refused : (n : ℕ) → disabled ≤ n → n ≤ noReading → Answered t cs bs (refuse cs n)
+  refused : (n : ℕ) → disabled ≤ n → n ≤ noReading → (n ≡ badParameter → readRequest bs .number ≡ badParameter)
+      → Answered t cs bs (refuse cs n)
+  no-node : (r : Request) → ReadAs bs r → opDetect < r .op → nodeAt t (r .path) ≡ none
+      → Answered t cs bs (failed failureNumber cs (noNode (missingLength t (r .path))))
+  no-property : (r : Request) (node : ℕ) → ReadAs bs r → opNode < r .op → nodeAt t (r .path) ≡ some node
+      → propertyOf t node (record { 0 = r .index }) ≡ none → Answered t cs bs (failed failureNumber cs noProperty)
   acknowledged : Answered t cs bs (plain cs done (ACK ∷ []))
   node-described : (r : Request) (node : ℕ) → ReadAs bs r → Answered t cs bs (plain cs done (nodeReply t node r))
   record-described : (r : Request) (place : ℕ) → ReadAs bs r → Answered t cs bs (plain cs done (recordReply (propertyIn t place) r))
@@ -221,27 +227,27 @@ module _ (t : Tree) (cs : List Cell) (bs : List ℕ) where
         (λ q.
         if-both (Answered t cs bs) (readable (propertyIn t place) (cellIn cs place))
         (word-read r place asks)
-        (refused noReading (omega arith) (omega arith)))
+        (refused noReading (omega arith) (omega arith) (λ z. absurd (omega (arith, z)))))
         (λ q.
         let above : opRead < r .op = omega (arith, eqb-false (r .op) opRecord e, eqb-false (r .op) opRead q) in
         written r place (record { asks = asks; writes = above; finds = f })))
 
     ifProperty-answered : (node : ℕ) → nodeAt t (r .path) ≡ some node → opNode < r .op → (o : Option ℕ)
-        → propertyOf t node (record { 0 = r .index }) ≡ o → Answered t cs bs (ifProperty outcome t cs r o)
+        → propertyOf t node (record { 0 = r .index }) ≡ o → Answered t cs bs (ifProperty outcome failureNumber t cs r o)
     unfolding ifProperty
-    ifProperty-answered node n h none e = refused badParameter (omega arith) (omega arith)
+    ifProperty-answered node n h none e = no-property r node asks h n e
     ifProperty-answered node n h (some place) e = property-answered place h (record { node = node; atNode = n; atProperty = e })
 
-    ifNode-answered : opDetect < r .op → (o : Option ℕ) → nodeAt t (r .path) ≡ o → Answered t cs bs (ifNode outcome t cs r o)
+    ifNode-answered : opDetect < r .op → (o : Option ℕ) → nodeAt t (r .path) ≡ o → Answered t cs bs (ifNode outcome failureNumber t cs r o)
     unfolding ifNode
-    ifNode-answered h none e = refused badParameter (omega arith) (omega arith)
+    ifNode-answered h none e = no-node r asks h e
     ifNode-answered h (some node) e =
         if-case (Answered t cs bs) (eqb (r .op) opNode) (λ q. node-described r node asks)
         (λ q.
         let above : opNode < r .op = omega (arith, eqb-false (r .op) opNode q) in
         ifProperty-answered node e above (propertyOf t node (record { 0 = r .index })) refl)
 
-    perform-answered : Answered t cs bs (perform outcome t cs r)
+    perform-answered : Answered t cs bs (perform outcome failureNumber t cs r)
     unfolding perform
     perform-answered =
         if-case (Answered t cs bs) (eqb (r .op) opDetect) (λ e. acknowledged)
@@ -250,7 +256,7 @@ module _ (t : Tree) (cs : List Cell) (bs : List ℕ) where
   -- Every answer is one of these.
   pub answered : (host : Bool) → Answered t cs bs (answer t cs host bs)
   unfolding answerBy ifAsked
-  answered false = refused disabled (omega arith) (omega arith)
+  answered false = refused disabled (omega arith) (omega arith) (λ z. absurd (omega (arith, z)))
   answered true =
       if-case (Answered t cs bs) (eqb (readRequest bs .number) done)
       (λ e.
@@ -258,12 +264,14 @@ module _ (t : Tree) (cs : List Cell) (bs : List ℕ) where
       (ap (λ n. record { number = n; request = readRequest bs .request }) (eqb-true (readRequest bs .number) done e)))
       (λ e.
       let row = readRequest-fits bs .late (eqb-false (readRequest bs .number) done e) in
-      refused (readRequest bs .number) (omega (arith, row .0)) (omega (arith, row .1)))
+      refused (readRequest bs .number) (omega (arith, row .0)) (omega (arith, row .1)) (λ z. z))
 
   -- Every reply has 1 to 256 bytes: to any data, with host functions on or off, whatever the cells hold.
   sized : Texts t → {a : Answer} → Answered t cs bs a → Sized (a .reply)
   unfolding onWrite
-  sized short (refused n h k) = record { least = omega arith; most = omega arith }
+  sized short (refused n h k s) = record { least = omega arith; most = omega arith }
+  sized short (no-node r asks h e) = record { least = omega arith; most = omega arith }
+  sized short (no-property r node asks h e f) = record { least = omega arith; most = omega arith }
   sized short acknowledged = record { least = omega arith; most = omega arith }
   sized short (node-described r node asks) = node-size r (path-most r (read-fits bs r asks)) t short node
   sized short (record-described r place asks) = record-size r (path-most r (read-fits bs r asks)) t short place
@@ -283,14 +291,16 @@ unfolding refusalCode
 code-not-busy n =
     if-both Code (eqb n disabled) (record { not-busy = λ e. omega (arith, e) })
     (if-both Code (eqb n unknownCommand) (record { not-busy = λ e. omega (arith, e) })
-    (if-both Code (eqb n badParameter) (record { not-busy = λ e. omega (arith, e) }) (record { not-busy = λ e. omega (arith, e) })))
+    (if-both Code (eqb n noReading) (record { not-busy = λ e. omega (arith, e) }) (record { not-busy = λ e. omega (arith, e) })))
 
 pub never-busy : (t : Tree) (cs : List Cell) (host : Bool) (bs : List ℕ) → getD (answer t cs host bs .reply) 0 0 ≡ BUSY → ⊥
-unfolding nodeReply recordReply readReply writeReply onWrite
+unfolding nodeReply recordReply readReply writeReply onWrite failureNumber
 never-busy t cs host bs = go (answered t cs bs host)
   where
     go : {a : Answer} → Answered t cs bs a → getD (a .reply) 0 0 ≡ BUSY → ⊥
-    go (refused n h k) = code-not-busy n .not-busy
+    go (refused n h k s) = code-not-busy n .not-busy
+    go (no-node r asks h e) = code-not-busy noSuchNode .not-busy
+    go (no-property r node asks h e f) = code-not-busy noSuchProperty .not-busy
     go acknowledged = λ e. omega (arith, e)
     go (node-described r node asks) = λ e. omega (arith, e)
     go (record-described r place asks) = λ e. omega (arith, e)
@@ -299,16 +309,36 @@ never-busy t cs host bs = go (answered t cs bs host)
 
 -- A request performed, where it names a property.
 finds-performs : (t : Tree) (cs : List Cell) (r : Request) (place : ℕ) → Finds t r place → opNode < r .op
-    → perform outcome t cs r ≡ onProperty outcome t cs r place
+    → perform outcome failureNumber t cs r ≡ onProperty outcome t cs r place
 unfolding perform ifNode ifProperty
 finds-performs t cs r place f h =
     let detect : eqb (r .op) opDetect ≡ false = ne-eqb (r .op) opDetect (λ e. omega (arith, e, h)) in
     let tree : eqb (r .op) opNode ≡ false = ne-eqb (r .op) opNode (λ e. omega (arith, e, h)) in
     rw (detect, f .atNode, tree, f .atProperty)
 
-answer-asked : (t : Tree) (cs : List Cell) (bs : List ℕ) (r : Request) → ReadAs bs r → answer t cs true bs ≡ perform outcome t cs r
+answer-asked : (t : Tree) (cs : List Cell) (bs : List ℕ) (r : Request) → ReadAs bs r → answer t cs true bs ≡ perform outcome failureNumber t cs r
 unfolding answerBy ifAsked
-answer-asked t cs bs r h = ap (ifAsked outcome t cs) h
+answer-asked t cs bs r h = ap (ifAsked outcome failureNumber t cs) h
+
+-- Data that is not read as a request is refused with the number of its reading.
+pub declined-answered : (t : Tree) (cs : List Cell) (bs : List ℕ) → (readRequest bs .number ≡ done → ⊥)
+    → answer t cs true bs ≡ refuse cs (readRequest bs .number)
+unfolding answerBy ifAsked
+declined-answered t cs bs h = rw (ne-eqb (readRequest bs .number) done h)
+
+-- A path that no node has, and a node without the property.
+module _ (t : Tree) (cs : List Cell) (bs : List ℕ) (r : Request) (asks : ReadAs bs r) where
+  pub node-lost-answered : opDetect < r .op → nodeAt t (r .path) ≡ none
+      → answer t cs true bs ≡ failed failureNumber cs (noNode (missingLength t (r .path)))
+  unfolding perform ifNode
+  node-lost-answered h e = answer-asked t cs bs r asks ∙ rw (ne-eqb (r .op) opDetect (λ z. omega (arith, z, h)), e)
+
+  pub property-lost-answered : {node : ℕ} → opNode < r .op → nodeAt t (r .path) ≡ some node
+      → propertyOf t node (record { 0 = r .index }) ≡ none → answer t cs true bs ≡ failed failureNumber cs noProperty
+  unfolding perform ifNode ifProperty
+  property-lost-answered h e f =
+      answer-asked t cs bs r asks
+      ∙ rw (ne-eqb (r .op) opDetect (λ z. omega (arith, z, h)), e, ne-eqb (r .op) opNode (λ z. omega (arith, z, h)), f)
 
 -- A live probe that is not ready is answered 58, whatever its word.
 pub open-probe : (t : Tree) (cs : List Cell) (bs : List ℕ) (r : Request) (place : ℕ) → ReadAs bs r → r .op ≡ opRead → Finds t r place
@@ -351,7 +381,9 @@ changes t cs host bs = go (answered t cs bs host)
     write r place w offStep e = none-changed refl
 
     go : {a : Answer} → Answered t cs bs a → Changes t cs bs (a .cells)
-    go (refused n h k) = none-changed refl
+    go (refused n h k s) = none-changed refl
+    go (no-node r asks h e) = none-changed refl
+    go (no-property r node asks h e f) = none-changed refl
     go acknowledged = none-changed refl
     go (node-described r node asks) = none-changed refl
     go (record-described r place asks) = none-changed refl
@@ -427,7 +459,9 @@ refusal-keeps t cs host bs = go (answered t cs bs host)
     write r place offStep h = refl
 
     go : {a : Answer} → Answered t cs bs a → (a .number ≡ done → ⊥) → a .cells ≡ cs
-    go (refused n p q) h = refl
+    go (refused n p q s) h = refl
+    go (no-node r asks h e) u = refl
+    go (no-property r node asks h e f) u = refl
     go acknowledged h = refl
     go (node-described r node asks) h = refl
     go (record-described r place asks) h = refl
@@ -435,32 +469,34 @@ refusal-keeps t cs host bs = go (answered t cs bs host)
     go (written r place w) h = write r place (outcome (propertyIn t place) (r .value)) h
 
 -- Two rules for writes that agree on every property of a tree answer alike.
-module _ (f g : Property → ℕ → Outcome) (t : Tree) (same : (place v : ℕ) → f (propertyIn t place) v ≡ g (propertyIn t place) v) (cs : List Cell) where
-  same-property : (r : Request) (place : ℕ) → onProperty f t cs r place ≡ onProperty g t cs r place
-  unfolding onProperty
-  same-property r place =
-      ap (λ o. cond (eqb (r .op) opRecord) (plain cs done (recordReply (propertyIn t place) r))
-      (cond (eqb (r .op) opRead) (onRead cs (propertyIn t place) place r) (onWrite cs place r o)))
-      (same place (r .value))
+module _ (f g : Property → ℕ → Outcome) (t : Tree) (same : (place v : ℕ) → f (propertyIn t place) v ≡ g (propertyIn t place) v)
+    (numbering : Failure → ℕ) (cs : List Cell)
+  where
+    same-property : (r : Request) (place : ℕ) → onProperty f t cs r place ≡ onProperty g t cs r place
+    unfolding onProperty
+    same-property r place =
+        ap (λ o. cond (eqb (r .op) opRecord) (plain cs done (recordReply (propertyIn t place) r))
+        (cond (eqb (r .op) opRead) (onRead cs (propertyIn t place) place r) (onWrite cs place r o)))
+        (same place (r .value))
 
-  same-if-property : (r : Request) (o : Option ℕ) → ifProperty f t cs r o ≡ ifProperty g t cs r o
-  unfolding ifProperty
-  same-if-property r none = refl
-  same-if-property r (some place) = same-property r place
+    same-if-property : (r : Request) (o : Option ℕ) → ifProperty f numbering t cs r o ≡ ifProperty g numbering t cs r o
+    unfolding ifProperty
+    same-if-property r none = refl
+    same-if-property r (some place) = same-property r place
 
-  same-if-node : (r : Request) (o : Option ℕ) → ifNode f t cs r o ≡ ifNode g t cs r o
-  unfolding ifNode
-  same-if-node r none = refl
-  same-if-node r (some place) =
-      ap (λ a. cond (eqb (r .op) opNode) (plain cs done (nodeReply t place r)) a)
-      (same-if-property r (propertyOf t place (record { 0 = r .index })))
+    same-if-node : (r : Request) (o : Option ℕ) → ifNode f numbering t cs r o ≡ ifNode g numbering t cs r o
+    unfolding ifNode
+    same-if-node r none = refl
+    same-if-node r (some place) =
+        ap (λ a. cond (eqb (r .op) opNode) (plain cs done (nodeReply t place r)) a)
+        (same-if-property r (propertyOf t place (record { 0 = r .index })))
 
-  same-perform : (r : Request) → perform f t cs r ≡ perform g t cs r
-  unfolding perform
-  same-perform r = ap (λ a. cond (eqb (r .op) opDetect) (plain cs done (ACK ∷ [])) a) (same-if-node r (nodeAt t (r .path)))
+    same-perform : (r : Request) → perform f numbering t cs r ≡ perform g numbering t cs r
+    unfolding perform
+    same-perform r = ap (λ a. cond (eqb (r .op) opDetect) (plain cs done (ACK ∷ [])) a) (same-if-node r (nodeAt t (r .path)))
 
-  pub same-answers : (host : Bool) (bs : List ℕ) → answerBy f t cs host bs ≡ answerBy g t cs host bs
-  unfolding answerBy ifAsked
-  same-answers true bs =
-      ap (λ a. cond (eqb (readRequest bs .number) done) a (refuse cs (readRequest bs .number))) (same-perform (readRequest bs .request))
-  same-answers false bs = refl
+    pub same-answers : (host : Bool) (bs : List ℕ) → answerBy f numbering t cs host bs ≡ answerBy g numbering t cs host bs
+    unfolding answerBy ifAsked
+    same-answers true bs =
+        ap (λ a. cond (eqb (readRequest bs .number) done) a (refuse cs (readRequest bs .number))) (same-perform (readRequest bs .request))
+    same-answers false bs = refl

@@ -13,6 +13,7 @@ pub mod StreamLaws
 pub mod RequestLaws
 pub mod RuleLaws
 pub mod StepLaws
+pub mod PathLaws
 pub mod OutcomeLaws
 pub mod AnswerLaws
 pub mod OnceLaws

@@ -8,7 +8,7 @@ use native.Mathlib.Decide.{decLe}
 use mathlib.Core.Path.{_≡_, refl, sym, ap, ap₂, _∙_}
 use mathlib.Core.Bool.{Bool, true, false, cond}
 use mathlib.Core.List.{List, [], _∷_, _++_, map, head-eq-of-cons-eq}
-use mathlib.Core.Option.{Option, none, some, Option·none-ne-some, Option·some-injective}
+use mathlib.Core.Option.{some}
 use borrow.Author.Tests.{eq-eqb, ne-eqb, leb-true, ltb-true}
 use lib.ListN.{length, getElem?, drop, length-append, length-drop}
 use lib.Seq.{drop-drop}
@@ -20,6 +20,7 @@ use Rattle.protocol.specs.Text.{each}
 use Rattle.protocol.specs.Listing.{Visit, Item, node, property, below, subtree, walk, propertyItems, itemsAt, items}
 use Rattle.protocol.specs.Listed.{total, All, one, nodeIs, propertyIs, nodeTimes, propertyTimes, propertyFound, FindsItem, eachFrom}
 use Rattle.protocol.proofs.TestLaws.{and-left, and-right, every-at, every-weaker}
+use Rattle.protocol.proofs.PathLaws.{node-on}
 
 -- The rules of a sound tree, one by one.
 pub record Rules (t : Tree) : Type 0 where
@@ -315,29 +316,6 @@ subtree-is t h k path =
     (below-each t (drop (suc k) (t .nodes)) (suc k) k path 1 refl
     ∙ ap (eachFrom (λ c m. subtree t c (path ++ m ∷ [])) 1) (sym (children-behind t (rules t h) k)))
 
--- A path with one number more leads to that child.
-module _ (t : Tree) where
-  descend-on : (ns : List ℕ) (place k n c : ℕ) → descend t place ns ≡ some k → numbered (childrenOf t k) n ≡ some c
-      → descend t place (ns ++ n ∷ []) ≡ some c
-  unfolding descend
-  descend-on [] place k n c h e = rw (ap (λ p. numbered (childrenOf t p) n) (Option·some-injective _ _ h) ∙ e, descend)
-  descend-on (m ∷ ns) place k n c h e = go (numbered (childrenOf t place) m) refl h (λ b l. descend-on ns b k n c l e)
-    where
-      go : (o : Option ℕ) → numbered (childrenOf t place) m ≡ o → descend t place (m ∷ ns) ≡ some k
-          → ((b : ℕ) → descend t b ns ≡ some k → descend t b (ns ++ n ∷ []) ≡ some c) → descend t place (m ∷ ns ++ n ∷ []) ≡ some c
-      go none d h on = absurd (Option·none-ne-some _ (rw (d, descend) at h))
-      go (some b) d h on = rw (d, descend) (on b (rw (d, descend) at h))
-
-  node-on : (path : List ℕ) (k n c : ℕ) → nodeAt t path ≡ some k → numbered (childrenOf t k) n ≡ some c
-      → nodeAt t (path ++ n ∷ []) ≡ some c
-  unfolding nodeAt
-  node-on [] k n c h e = absurd (Option·none-ne-some _ h)
-  node-on (m ∷ ns) k n c h e = go (eqb m 1) h
-    where
-      go : (b : Bool) → cond b (descend t 0 ns) none ≡ some k → cond b (descend t 0 (ns ++ n ∷ [])) none ≡ some c
-      go true h = descend-on ns 0 k n c h e
-      go false h = absurd (Option·none-ne-some _ h)
-
 -- The first of what is left of a list.
 drop-first : (cs : List ℕ) (m j : ℕ) (rest : List ℕ) → j ∷ rest ≡ drop m cs → getElem? cs m ≡ some j
 drop-first [] zero j rest e = cc
@@ -375,7 +353,7 @@ module _ (t : Tree) (r : Rules t) where
       go c own on same true b =
           let first : j ∷ Rest ≡ drop m (childrenOf t k) = rw b at c in
           let child : nodeAt t (path ++ suc m ∷ []) ≡ some j =
-          node-on t path k (suc m) j h (drop-first (childrenOf t k) m j Rest first) in
+          node-on t path k (suc m) h ∙ drop-first (childrenOf t k) m j Rest first in
           rw (b, below) (
             child,
             all-append Found (below xs (suc j) j (path ++ suc m ∷ []) 1) (below xs (suc j) k path (suc (suc m))) (own child)

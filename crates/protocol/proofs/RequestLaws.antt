@@ -385,6 +385,10 @@ path-most r h = go (asksPath (r .op)) refl
         let p : eqb (length (r .path)) 0 ≡ true = rw e at (fit r h .path) in
         omega (arith, eqb-true (length (r .path)) 0 p)
 
+pub path-some : (r : Request) → fits r ≡ true → opDetect < r .op → 1 ≤ length (r .path)
+path-some r h op =
+    let p : isPath (r .path) ≡ true = rw (lt-ltb opDetect (r .op) op) at (fit r h .path) in is-path (r .path) p .least
+
 part-most : (t : Bool) (bs : List ℕ) → length (cond t bs []) ≤ length bs
 part-most true bs = omega arith
 part-most false bs = omega arith

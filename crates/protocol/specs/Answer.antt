@@ -6,10 +6,11 @@ use mathlib.Core.List.{List, [], _∷_, _++_}
 use mathlib.Core.Option.{Option, none, some}
 use lib.ListN.{length, set}
 use lib.Dec.{eqb, leb}
-use Rattle.protocol.specs.Numbers.{done, disabled, unknownCommand, badParameter, noReading, notSaved, PDI, ERROR, ACK, DISABLED, NAK, ILLEGAL, opDetect, opNode, opRecord, opRead, opWrite, standard, statusOk, saveFailed, saveDone, saveNone}
+use Rattle.protocol.specs.Numbers.{done, disabled, unknownCommand, noReading, notSaved, PDI, ERROR, ACK, DISABLED, NAK, ILLEGAL, opDetect, opNode, opRecord, opRead, opWrite, standard, statusOk, saveFailed, saveDone, saveNone}
 use Rattle.protocol.specs.Bytes.{half, word, text, texts, atMost}
 use Rattle.protocol.specs.Request.{Request, Asked, readRequest}
 use Rattle.protocol.specs.Step.{onStep}
+use Rattle.protocol.specs.Path.{missingLength, Failure, noNode, noProperty, failureNumber, failureLength}
 use Rattle.protocol.specs.Tree.{Property, Tree, Cell, canRead, canWrite, isSigned, childrenOf, propertiesOf, propertyOf, nodeAt, nodeIn, propertyIn, cellIn, readable}
 
 -- The range rule. Type 1: any value where min and max are both 0, else from min to max, both included, in the order that
@@ -117,25 +118,34 @@ writeBody o op = saveByte o ∷ cond (eqb op opWrite) [] (text (reason o))
 unfoldable pub writeReply : Outcome → Request → List ℕ
 writeReply o r = echoIndexed r ++ 0 ∷ (word (r .value) ++ writeBody o (r .op))
 
--- What a call answers: the number, the reply's data, the cells afterwards, and the place of the property whose action is
--- to be taken.
+-- What a call answers: the number, the reply's data, the cells afterwards, the place of the property whose action is to be taken,
+-- and (02, section 7) the length of the part of the path that no node has.
 pub record Answer : Type 0 where
   pub number : ℕ
   pub reply : List ℕ
   pub cells : List Cell
   pub action : Option ℕ
+  pub missing : ℕ
 
--- A reply that leaves every cell as it is and takes no action.
+-- A reply that leaves every cell as it is, takes no action and tells no length.
 abbrev pub plain : List Cell → ℕ → List ℕ → Answer
-plain cs n bs = record { number = n; reply = bs; cells = cs; action = none }
+plain cs n bs = record { number = n; reply = bs; cells = cs; action = none; missing = 0 }
 
--- Rows 9 to 12: the reply code of a refusal.
+-- Rows 9 to 12: the reply code of a refusal. 02, section 7: 15 and 16 have that of 11.
 unfoldable pub refusalCode : ℕ → ℕ
 refusalCode n =
-    cond (eqb n disabled) DISABLED (cond (eqb n unknownCommand) ILLEGAL (cond (eqb n badParameter) ERROR NAK))
+    cond (eqb n disabled) DISABLED (cond (eqb n unknownCommand) ILLEGAL (cond (eqb n noReading) NAK ERROR))
+
+-- A refusal that tells a length, and one that tells none.
+abbrev pub refuseAt : List Cell → ℕ → ℕ → Answer
+refuseAt cs n len = record { number = n; reply = refusalCode n ∷ []; cells = cs; action = none; missing = len }
 
 abbrev pub refuse : List Cell → ℕ → Answer
-refuse cs n = plain cs n (refusalCode n ∷ [])
+refuse cs n = refuseAt cs n 0
+
+-- A lookup that fails, where a numbering has its number.
+abbrev pub failed : (Failure → ℕ) → List Cell → Failure → Answer
+failed numbering cs f = refuseAt cs (numbering f) (failureLength f)
 
 unfoldable pub onRead : List Cell → Property → ℕ → Request → Answer
 onRead cs p place r =
@@ -148,9 +158,11 @@ onWrite cs place r o =
       reply = writeReply o r;
       cells = cellsAfter o cs place (r .value);
       action = actionOf o place;
+      missing = 0;
     }
 
--- What the box answers where a rule says what a write of a value to a property does.
+-- What the box answers where a rule says what a write of a value to a property does, and a numbering has the number of a lookup
+-- that fails.
 module _ (rule : Property → ℕ → Outcome) where
   -- Ops 2 to 5 once the property is found.
   unfoldable pub onProperty : Tree → List Cell → Request → ℕ → Answer
@@ -161,33 +173,34 @@ module _ (rule : Property → ℕ → Outcome) where
       (onRead cs (propertyIn t place) place r)
       (onWrite cs place r (rule (propertyIn t place) (r .value))))
 
-  -- A path with no node, or a node with no such property, is 11.
-  unfoldable pub ifProperty : Tree → List Cell → Request → Option ℕ → Answer
-  ifProperty t cs r none = refuse cs badParameter
-  ifProperty t cs r (some place) = onProperty t cs r place
+  module _ (numbering : Failure → ℕ) where
+    -- A node with no such property, and a path with no node.
+    unfoldable pub ifProperty : Tree → List Cell → Request → Option ℕ → Answer
+    ifProperty t cs r none = failed numbering cs noProperty
+    ifProperty t cs r (some place) = onProperty t cs r place
 
-  unfoldable pub ifNode : Tree → List Cell → Request → Option ℕ → Answer
-  ifNode t cs r none = refuse cs badParameter
-  ifNode t cs r (some place) =
-      cond (eqb (r .op) opNode)
-      (plain cs done (nodeReply t place r))
-      (ifProperty t cs r (propertyOf t place (record { 0 = r .index })))
+    unfoldable pub ifNode : Tree → List Cell → Request → Option ℕ → Answer
+    ifNode t cs r none = failed numbering cs (noNode (missingLength t (r .path)))
+    ifNode t cs r (some place) =
+        cond (eqb (r .op) opNode)
+        (plain cs done (nodeReply t place r))
+        (ifProperty t cs r (propertyOf t place (record { 0 = r .index })))
 
-  -- A request answered.
-  unfoldable pub perform : Tree → List Cell → Request → Answer
-  perform t cs r = cond (eqb (r .op) opDetect) (plain cs done (ACK ∷ [])) (ifNode t cs r (nodeAt t (r .path)))
+    -- A request answered.
+    unfoldable pub perform : Tree → List Cell → Request → Answer
+    perform t cs r = cond (eqb (r .op) opDetect) (plain cs done (ACK ∷ [])) (ifNode t cs r (nodeAt t (r .path)))
 
-  unfoldable pub ifAsked : Tree → List Cell → Asked → Answer
-  ifAsked t cs a = cond (eqb (a .number) done) (perform t cs (a .request)) (refuse cs (a .number))
+    unfoldable pub ifAsked : Tree → List Cell → Asked → Answer
+    ifAsked t cs a = cond (eqb (a .number) done) (perform t cs (a .request)) (refuse cs (a .number))
 
-  -- Data answered, host functions on (true) or off: 9, then 10 and 11, then 12 or 13.
-  unfoldable pub answerBy : Tree → List Cell → Bool → List ℕ → Answer
-  answerBy t cs true bs = ifAsked t cs (readRequest bs)
-  answerBy t cs false bs = refuse cs disabled
+    -- Data answered, host functions on (true) or off: 9, then 10 and 11, then 15, 16, and 12 or 13.
+    unfoldable pub answerBy : Tree → List Cell → Bool → List ℕ → Answer
+    answerBy t cs true bs = ifAsked t cs (readRequest bs)
+    answerBy t cs false bs = refuse cs disabled
 
--- The rule of the box.
+-- The rule and the numbering of the box.
 abbrev pub answer : Tree → List Cell → Bool → List ℕ → Answer
-answer t cs host bs = answerBy outcome t cs host bs
+answer t cs host bs = answerBy outcome failureNumber t cs host bs
 
 -- A request that names a property: its path has a node, and the node has a property with its index, at a place.
 pub record Finds (t : Tree) (r : Request) (place : ℕ) : Type 0 where

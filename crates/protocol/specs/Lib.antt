@@ -8,6 +8,7 @@ pub mod Buffer
 pub mod Stream
 pub mod Request
 pub mod Tree
+pub mod Path
 pub mod Text
 pub mod Listing
 pub mod Listed

@@ -9,7 +9,7 @@ use Rattle.protocol.specs.Tree.{Cell}
 use Rattle.protocol.specs.Answer.{Answer, answer}
 use Rattle.protocol.specs.Bench.{benchTree, benchCells, cell}
 
--- A case: data, and what the bench box answers to it, host functions on: number, reply, cells and action; or an address and
+-- A case: data, and what the bench box answers to it, host functions on: number, reply, cells, action and length; or an address and
 -- data, and what is written: number and frame.
 pub data Row : Type 0 where
   ask : List ℕ → Answer → Row
@@ -26,7 +26,7 @@ cellsWith average = cell 2100 true ∷ cell 8500 false ∷ cell average false �
 
 abbrev shows : ℕ → Option ℕ → List ℕ → ℕ → List ℕ → Row
 shows average action bs number reply =
-    ask bs (record { number = number; reply = reply; cells = cellsWith average; action = action })
+    ask bs (record { number = number; reply = reply; cells = cellsWith average; action = action; missing = 0 })
 
 -- A row that changes no cell and takes no action; one whose reply, besides, repeats the request and adds some bytes.
 abbrev unchanged : List ℕ → ℕ → List ℕ → Row
@@ -34,6 +34,10 @@ unchanged bs number reply = shows 4 none bs number reply
 
 abbrev adds : List ℕ → ℕ → List ℕ → Row
 adds bs number more = unchanged bs number (bs ++ more)
+
+-- 02, section 7: a row whose path no node has, and the length of the part that none has. Its reply is the one of document 01.
+abbrev lost : List ℕ → ℕ → Row
+lost bs len = ask bs (record { number = 15; reply = 0x54 ∷ []; cells = cellsWith 4; action = none; missing = len })
 
 unfoldable pub markedCases : List Row
 markedCases =
@@ -53,7 +57,7 @@ markedCases =
     ∷ adds (0xB4 ∷ 0x05 ∷ 0x01 ∷ 0x01 ∷ 0x01 ∷ 0x00 ∷ 0x00 ∷ 0x00 ∷ 0x00 ∷ 0x00 ∷ []) 13
     (0x00 ∷ 0x52 ∷ 0x65 ∷ 0x61 ∷ 0x64 ∷ 0x20 ∷ 0x6F ∷ 0x6E ∷ 0x6C ∷ 0x79 ∷ 0x00 ∷ [])
     ∷ unchanged (0xB4 ∷ 0x04 ∷ 0x01 ∷ 0x02 ∷ 0x01 ∷ 0x00 ∷ 0x00 ∷ 0x00 ∷ 0x00 ∷ []) 11 (0x54 ∷ [])
-    ∷ unchanged (0xB4 ∷ 0x03 ∷ 0x01 ∷ 0x03 ∷ 0x01 ∷ []) 11 (0x54 ∷ [])
+    ∷ lost (0xB4 ∷ 0x03 ∷ 0x01 ∷ 0x03 ∷ 0x01 ∷ []) 2
     ∷ unchanged (0xB4 ∷ 0x06 ∷ []) 10 (0x59 ∷ [])
     ∷ write 0x3B (0xB4 ∷ 0x00 ∷ []) (received (0x10 ∷ 0x02 ∷ 0x3B ∷ 0xB4 ∷ 0x00 ∷ 0x10 ∷ 0x10 ∷ 0x10 ∷ 0x03 ∷ []))
     ∷ []

@@ -38,7 +38,7 @@ disabled = 9
 abbrev pub unknownCommand : ℕ
 unknownCommand = 10
 
--- a shape that is not in the table, no such node, or no such property
+-- a shape that is not in the table
 abbrev pub badParameter : ℕ
 badParameter = 11
 
@@ -52,6 +52,14 @@ notSaved = 13
 -- a posting to a cell that does not exist or is not live
 abbrev pub notLive : ℕ
 notLive = 14
+
+-- 02, section 7: no node has the path
+abbrev pub noSuchNode : ℕ
+noSuchNode = 15
+
+-- 02, section 7: a node has the path, and no property with the index; no property at a place
+abbrev pub noSuchProperty : ℕ
+noSuchProperty = 16
 
 -- 02, section 3: no sheet of this tree, or a label that cannot be written
 abbrev pub badSheet : ℕ

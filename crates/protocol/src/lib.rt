@@ -40,6 +40,11 @@ pub const NOT_SAVED: u8 = 13;
 
 pub const NOT_LIVE: u8 = 14;
 
+// Numbers returned (document 02, section 7).
+pub const NO_SUCH_NODE: u8 = 15;
+
+pub const NO_SUCH_PROPERTY: u8 = 16;
+
 // Numbers returned (document 02, section 3).
 pub const BAD_SHEET: u8 = 17;
 

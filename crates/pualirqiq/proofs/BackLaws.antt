@@ -11,7 +11,7 @@ use lib.ListN.{length, take, drop, length-drop}
 use lib.Seq.{take-all}
 use lib.Dec.{eqb}
 use lib.IntN.{ℤ}
-use Rattle.protocol.specs.Numbers.{done, unsound, badParameter, noReading}
+use Rattle.protocol.specs.Numbers.{done, unsound, noSuchProperty, noReading}
 use Rattle.protocol.specs.Frame.{readDatagram}
 use Rattle.protocol.specs.Request.{Asked}
 use Rattle.protocol.specs.Signed.{numberOf, integerOf}
@@ -86,7 +86,7 @@ module _ (tree cells : List ℕ) (place old : ℕ) where
   reads-unsound e u = rw (lent-refused tree cells e u) (record { number = refl; word-is = refl })
 
   module _ (lent : isLent tree cells ≡ true) where
-    pub reads-missing : length (seen tree .properties) ≤ place → Reads (readIn tree cells place) old badParameter old
+    pub reads-missing : length (seen tree .properties) ≤ place → Reads (readIn tree cells place) old noSuchProperty old
     unfolding readIn
     reads-missing h = rw (lent, le-ltb place (length (seen tree .properties)) h) (record { number = refl; word-is = refl })
 

@@ -1,8 +1,8 @@
 // The C interface of the box (include/pualirqiq.h): every call on numbers and byte slices, thin over the crates below.
 use cells::Reading;
-use protocol::BAD_PARAMETER;
 use protocol::DONE;
 use protocol::NO_READING;
+use protocol::NO_SUCH_PROPERTY;
 use protocol::PropertyIndex;
 use protocol::UNSOUND;
 use request::Asked;
@@ -163,7 +163,7 @@ pub extern "C" fn pq_restore_cells(tree: &[u8], cells: &mut [u8]) -> u8
     cells::update::restore(tree, cells)
 }
 
-// The number that the property at a place has to read: 1, 11 (no such property), 12 (no number) or 0.
+// The number that the property at a place has to read: 1, 16 (no such property), 12 (no number) or 0.
 #[no_mangle]
 pub extern "C" fn pq_reading(tree: &[u8], cells: &[u8], place: usize, word: &mut u32) -> u8
     ensures { λ r. ⌜ Reads (readIn (now (tree .entry)) (now (cells .entry)) place) (now (word .entry)) r (now (word .exit)) ⌝ }
@@ -172,7 +172,7 @@ pub extern "C" fn pq_reading(tree: &[u8], cells: &[u8], place: usize, word: &mut
         return UNSOUND;
     }
     if tree::record::property_count(tree) <= place {
-        return BAD_PARAMETER;
+        return NO_SUCH_PROPERTY;
     }
     let Reading::Word(n) = cells::cell::reading(tree, cells, place) else {
         return NO_READING;
@@ -181,7 +181,7 @@ pub extern "C" fn pq_reading(tree: &[u8], cells: &[u8], place: usize, word: &mut
     DONE
 }
 
-// Request data served: 1, 8, 4, 5, 9, 10, 11, 12, 13 or 0.
+// Request data served: 1, 8, 4, 5, 9, 10, 11, 15, 16, 12, 13 or 0.
 #[no_mangle]
 pub extern "C" fn pq_serve_data(
     tree: &[u8],
@@ -191,16 +191,18 @@ pub extern "C" fn pq_serve_data(
     out: &mut [u8],
     len: &mut usize,
     action: &mut u8,
+    missing: &mut u8,
 ) -> u8
-    ensures { λ r. ⌜ Serves (serveData (length (now (out .entry))) (now (request .entry)) (truth host) (now (tree .entry)) (now (cells .entry))) (now (out .entry)) r (now (len .exit)) (now (action .exit)) (now (cells .exit)) (now (out .exit)) ⌝ }
+    ensures { λ r. ⌜ Serves (serveData (length (now (out .entry))) (now (request .entry)) (truth host) (now (tree .entry)) (now (cells .entry))) (now (out .entry)) r (now (len .exit)) (now (action .exit)) (now (missing .exit)) (now (cells .exit)) (now (out .exit)) ⌝ }
 {
     let served = answer::serve::serve_data(tree, cells, host != 0, request, out);
     *len = served.len;
     *action = served.action;
+    *missing = served.missing;
     served.number
 }
 
-// A serial string served for the box's address: 1, 8, 2, 3, 4, 5, 6, 7, 9, 10, 11, 12, 13 or 0.
+// A serial string served for the box's address: 1, 8, 2, 3, 4, 5, 6, 7, 9, 10, 11, 15, 16, 12, 13 or 0.
 #[no_mangle]
 pub extern "C" fn pq_serve_serial(
     tree: &[u8],
@@ -211,16 +213,18 @@ pub extern "C" fn pq_serve_serial(
     out: &mut [u8],
     len: &mut usize,
     action: &mut u8,
+    missing: &mut u8,
 ) -> u8
-    ensures { λ r. ⌜ Serves (serveSerial address (length (now (out .entry))) (now (string .entry)) (truth host) (now (tree .entry)) (now (cells .entry))) (now (out .entry)) r (now (len .exit)) (now (action .exit)) (now (cells .exit)) (now (out .exit)) ⌝ }
+    ensures { λ r. ⌜ Serves (serveSerial address (length (now (out .entry))) (now (string .entry)) (truth host) (now (tree .entry)) (now (cells .entry))) (now (out .entry)) r (now (len .exit)) (now (action .exit)) (now (missing .exit)) (now (cells .exit)) (now (out .exit)) ⌝ }
 {
     let serial = answer::serve::serve_serial(tree, cells, host != 0, address, string, out);
     *len = serial.len;
     *action = serial.action;
+    *missing = serial.missing;
     serial.number
 }
 
-// A datagram served: 1, 8, 2, 4, 5, 9, 10, 11, 12, 13 or 0.
+// A datagram served: 1, 8, 2, 4, 5, 9, 10, 11, 15, 16, 12, 13 or 0.
 #[no_mangle]
 pub extern "C" fn pq_serve_udp(
     tree: &[u8],
@@ -230,12 +234,14 @@ pub extern "C" fn pq_serve_udp(
     out: &mut [u8],
     len: &mut usize,
     action: &mut u8,
+    missing: &mut u8,
 ) -> u8
-    ensures { λ r. ⌜ Serves (serveUdp (length (now (out .entry))) (now (datagram .entry)) (truth host) (now (tree .entry)) (now (cells .entry))) (now (out .entry)) r (now (len .exit)) (now (action .exit)) (now (cells .exit)) (now (out .exit)) ⌝ }
+    ensures { λ r. ⌜ Serves (serveUdp (length (now (out .entry))) (now (datagram .entry)) (truth host) (now (tree .entry)) (now (cells .entry))) (now (out .entry)) r (now (len .exit)) (now (action .exit)) (now (missing .exit)) (now (cells .exit)) (now (out .exit)) ⌝ }
 {
     let udp = answer::serve::serve_udp(tree, cells, host != 0, datagram, out);
     *len = udp.len;
     *action = udp.action;
+    *missing = udp.missing;
     udp.number
 }
 

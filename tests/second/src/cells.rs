@@ -71,10 +71,10 @@ pub fn restore(tree: &[u8], cells: &mut [u8]) -> u8 {
     0
 }
 
-/// The firmware reads the property at a place: 1, 11 or 12.
+/// The firmware reads the property at a place: 1, 16 or 12.
 pub fn reading(tree: &[u8], cells: &[u8], place: usize) -> Result<u32, u8> {
     let tree = checked(tree, cells).ok_or(UNSOUND)?;
-    let property = tree.properties.get(place).ok_or(BAD_PARAMETER)?;
+    let property = tree.properties.get(place).ok_or(NO_SUCH_PROPERTY)?;
     readable(property, cells, place)
 }
 

@@ -38,15 +38,15 @@ extern "C" {
     ) -> u8;
     pub fn pq_serve_data(
         tree: *const u8, tree_len: usize, cells: *mut u8, cells_len: usize, host: u8, request: *const u8, request_len: usize,
-        out: *mut u8, out_len: usize, len: *mut usize, action: *mut u8,
+        out: *mut u8, out_len: usize, len: *mut usize, action: *mut u8, missing: *mut u8,
     ) -> u8;
     pub fn pq_serve_serial(
         tree: *const u8, tree_len: usize, cells: *mut u8, cells_len: usize, host: u8, address: u8, string: *const u8,
-        string_len: usize, out: *mut u8, out_len: usize, len: *mut usize, action: *mut u8,
+        string_len: usize, out: *mut u8, out_len: usize, len: *mut usize, action: *mut u8, missing: *mut u8,
     ) -> u8;
     pub fn pq_serve_udp(
         tree: *const u8, tree_len: usize, cells: *mut u8, cells_len: usize, host: u8, datagram: *const u8, datagram_len: usize,
-        out: *mut u8, out_len: usize, len: *mut usize, action: *mut u8,
+        out: *mut u8, out_len: usize, len: *mut usize, action: *mut u8, missing: *mut u8,
     ) -> u8;
     pub fn pq_frame(address: u8, data: *const u8, data_len: usize, out: *mut u8, out_len: usize, len: *mut usize) -> u8;
     pub fn pq_datagram(data: *const u8, data_len: usize, out: *mut u8, out_len: usize, len: *mut usize) -> u8;

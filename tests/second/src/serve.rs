@@ -1,4 +1,4 @@
-//! Requests answered ("Requests and replies", "Numbers returned").
+//! Requests answered ("Requests and replies", "Numbers returned"; 15 and 16: document 02, section 7).
 use crate::frame::{check_length, content, datagram_data, write_frame};
 use crate::request::{read_data, Request, COMMAND};
 use crate::tree::{Property, Tree, WRITE};
@@ -13,20 +13,34 @@ const ILLEGAL: u8 = 0x59;
 /// PDI 5.4: the status of a reading that is good.
 const STATUS_OK: u8 = 0x01;
 
-/// What a request came to: the number, the reply's length, the place of an action to be taken.
+/// What a request came to: the number, the reply's length, the place of an action to be taken, and with 15 the length of the
+/// shortest front part of the path that no node has; with any other number that is 0.
 #[derive(Clone, Copy, Debug, PartialEq)]
 pub struct Served {
     pub number: u8,
     pub len: usize,
     pub action: u8,
+    pub missing: u8,
+}
+
+/// A refusal that is answered by one byte, and the length that 15 tells.
+struct Refusal {
+    number: u8,
+    missing: u8,
+}
+
+impl From<u8> for Refusal {
+    fn from(number: u8) -> Refusal {
+        Refusal { number, missing: 0 }
+    }
 }
 
 fn refused(number: u8) -> Served {
-    Served { number, len: 0, action: NO_ACTION }
+    Served { number, len: 0, action: NO_ACTION, missing: 0 }
 }
 
 fn served(number: u8, writer: &Writer) -> Served {
-    Served { number, len: writer.len, action: NO_ACTION }
+    Served { len: writer.len, ..refused(number) }
 }
 
 /// A tree that was checked, its cells, and the host switch.
@@ -48,29 +62,29 @@ impl Device<'_> {
         let mut writer = Writer::new(out);
         match self.perform(data, &mut writer) {
             Ok(answer) => answer,
-            Err(number) => {
+            Err(Refusal { number, missing }) => {
                 writer.byte(code(number));
-                served(number, &writer)
+                Served { missing, ..served(number, &writer) }
             }
         }
     }
 
-    /// Refusals 9 to 12 come back as their number, with nothing written.
-    fn perform(&mut self, data: &[u8], writer: &mut Writer) -> Result<Served, u8> {
+    /// Refusals 9 to 12, 15 and 16 come back with nothing written.
+    fn perform(&mut self, data: &[u8], writer: &mut Writer) -> Result<Served, Refusal> {
         if !self.host {
-            return Err(DISABLED);
+            return Err(DISABLED.into());
         }
         let request = read_data(data)?;
         if request.op == 0 {
             writer.byte(ACK);
             return Ok(served(0, writer));
         }
-        let node = self.tree.node(request.path()).ok_or(BAD_PARAMETER)?;
+        let node = self.tree.node(request.path()).map_err(|missing| Refusal { number: NO_SUCH_NODE, missing })?;
         if request.op == 1 {
             self.describe_node(&request, node, writer);
             return Ok(served(0, writer));
         }
-        let place = self.tree.property(node, request.index).ok_or(BAD_PARAMETER)?;
+        let place = self.tree.property(node, request.index).ok_or(NO_SUCH_PROPERTY)?;
         match request.op {
             2 => self.describe_property(&request, place, writer),
             3 => self.read(&request, place, writer)?,
@@ -121,7 +135,7 @@ impl Device<'_> {
         }
         let number = if written.save == 0 { NOT_SAVED } else { 0 };
         let action = if written.save == 2 { place as u8 } else { NO_ACTION };
-        Served { number, len: writer.len, action }
+        Served { action, ..served(number, writer) }
     }
 }
 

@@ -1,4 +1,4 @@
-//! The tree ("The tree"; steps: document 02, section 6), its rules and its lent form (docs/FORMATS.md).
+//! The tree ("The tree"; steps and missing nodes: document 02, sections 6 and 7), its rules and its lent form (docs/FORMATS.md).
 
 const MOST_NODES: usize = 64;
 const MOST_PROPERTIES: usize = 128;
@@ -253,13 +253,17 @@ impl<'a> Tree<'a> {
         records
     }
 
-    /// The place of the node at a path.
-    pub fn node(&self, path: &[u8]) -> Option<usize> {
-        let (first, behind) = path.split_first()?;
-        if *first != 1 {
-            return None;
+    /// The place of the node at a path of at most 16 numbers; where there is none, the length of its shortest front part that no
+    /// node has, which is 1 where it does not begin with the device's number.
+    pub fn node(&self, path: &[u8]) -> Result<usize, u8> {
+        if path.first() != Some(&1) {
+            return Err(1);
         }
-        behind.iter().try_fold(0, |node, number| self.child(node, *number))
+        let mut node = 0;
+        for (len, number) in (2..).zip(&path[1..]) {
+            node = self.child(node, *number).ok_or(len)?;
+        }
+        Ok(node)
     }
 
     /// The place of a node's child of this number; the device is nobody's child.

@@ -2,13 +2,12 @@
 use Prim.Native.Nat.{_-_}
 use borrow.Author.Needs.{needs}
 use native.Mathlib.Omega.{arith}
-use mathlib.Core.Path.{ap, sym, _∙_}
+use mathlib.Core.Path.{sym, _∙_}
 use lib.ListN.{length, getD}
 use Rattle.protocol.specs.Tree.{childOf}
 use Rattle.tree.specs.Seen.{seen}
-use Rattle.tree.specs.Lookup.{foundOf}
 use Rattle.tree.proofs.FoundLaws.{found-at, found-none}
-use Rattle.lookup.proofs.FindLaws.{Walking, walk-empty, walk-other, walk-begins, walk-lost, walk-more, walk-ends}
+use Rattle.lookup.proofs.ReachLaws.{Walking, walk-empty, walk-other, walk-begins, walk-lost, walk-more, walk-ends}
 use Rattle.lookup.proofs.node.Statement.{statement}
 use Rattle.lookup.proofs.node.Tie as tie
 
@@ -21,7 +20,7 @@ abbrev μ-loop : tie.MeasureT-loop
 returns : tie.Need-returns Inv-loop μ-loop
 returns c =
     let args = c .before .before .before .args in
-    sym (ap foundOf (walk-empty (seen (args .tree .now)) (args .path .now) (c .if1 .taken)))
+    walk-empty (seen (args .tree .now)) (args .path .now) (c .if1 .taken)
 
 shared-slice-read-if2 : tie.Need-shared-slice-read-if2 Inv-loop μ-loop
 shared-slice-read-if2 c = omega arith
@@ -29,7 +28,7 @@ shared-slice-read-if2 c = omega arith
 returns-2 : tie.Need-returns-2 Inv-loop μ-loop
 returns-2 c =
     let args = c .before .before .before .before .before .args in
-    sym (ap foundOf (walk-other (seen (args .tree .now)) (args .path .now) (c .if2 .taken)))
+    walk-other (seen (args .tree .now)) (args .path .now) (c .before .before .if1 .left) (c .if2 .taken)
 
 loop-holds : tie.Need-loop-holds Inv-loop μ-loop
 loop-holds c =
@@ -48,15 +47,17 @@ enum-known-next c = search needs
 enum-told : tie.Need-enum-told Inv-loop μ-loop
 enum-told c = search needs
 
+add-t16 : tie.Need-add-t16 Inv-loop μ-loop
+add-t16 c = omega arith
+
 returns-3 : tie.Need-returns-3 Inv-loop μ-loop
 returns-3 c =
     let asked = c .before .before in
     let in-loop = asked .before .before in
     let args = in-loop .before .before .before .before .before .before .before .args in
     let child = childOf (seen (args .tree .now)) (in-loop .before .loop .place) (record { 0 = getD (args .path .now) (in-loop .before .loop .i) 0 }) in
-    sym (ap foundOf
-    (walk-lost (seen (args .tree .now)) (args .path .now) (in-loop .before .loop .inv) (in-loop .loop-test .taken)
-    (found-none child (sym (c .enum-told .given .1) ∙ asked .child .ensures))))
+    walk-lost (seen (args .tree .now)) (args .path .now) (in-loop .before .loop .inv) (in-loop .loop-test .taken)
+    (found-none child (sym (c .enum-told .given .1) ∙ asked .child .ensures))
 
 add-i : tie.Need-add-i Inv-loop μ-loop
 add-i c = omega arith
@@ -77,8 +78,7 @@ loop-again c =
 returns-4 : tie.Need-returns-4 Inv-loop μ-loop
 returns-4 c =
     let args = c .before .before .before .before .before .before .before .args in
-    sym (ap foundOf
-    (walk-ends (seen (args .tree .now)) (args .path .now) (c .before .loop .inv) (c .loop-test .left)))
+    walk-ends (seen (args .tree .now)) (args .path .now) (c .before .loop .inv) (c .loop-test .left)
 
 pub node-spec : {M : Type 1} → statement M
 node-spec =
@@ -94,6 +94,7 @@ node-spec =
     child-requires
     enum-known-next
     enum-told
+    add-t16
     returns-3
     add-i
     loop-less

@@ -21,11 +21,12 @@ const STATION: Station = Station { base: 1, sub: 2 };
 /// No listing is longer.
 const ROOM_LISTING: usize = 17_664;
 
-/// A row: its name, what it does, and how many units (bytes, or 1) one call is.
+/// A row: its name, what it does, how many units (bytes, or 1) one call is, and the number that it comes to.
 struct Row {
     name: String,
     work: Work,
     units: usize,
+    number: u8,
 }
 
 enum Work {
@@ -86,7 +87,7 @@ fn varied(seed: u64) -> Vec<u8> {
 }
 
 fn row(name: &str, units: usize, work: Work) -> Row {
-    Row { name: name.to_string(), work, units }
+    Row { name: name.to_string(), work, units, number: 0 }
 }
 
 /// The request of an op for the property at a path and index.
@@ -135,13 +136,24 @@ fn step_row(rows: &mut Vec<Row>) {
     rows.push(row("op4-step", 1, Work::Serve { tree: tree.write(), cells, request }));
 }
 
+/// Op 3 with a path that no node has, from its last number on: 1.3 of the bench tree, and sixteen numbers of the largest.
+fn missing_rows(rows: &mut Vec<Row>) {
+    let mut longest = [1; 16];
+    longest[15] = 255;
+    let (bench, largest) = ((bench::tree().write(), bench::CELLS.to_vec()), (bench::largest().write(), vec![0; 640]));
+    for (name, (tree, cells), path) in [("bench", bench, &[1, 3][..]), ("largest", largest, &longest)] {
+        let work = Work::Serve { tree, cells, request: request_data(3, path, 1, 0) };
+        rows.push(Row { number: second::NO_SUCH_NODE, ..row(&format!("missing-{name}"), 1, work) });
+    }
+}
+
 /// Each op on a tree, the firmware's reading of the same property, the tree's listing and its check.
 fn tree_rows(rows: &mut Vec<Row>, name: &str, tree: Vec<u8>, cells: Vec<u8>, path: &[u8], index: u8) {
     for op in 0..=5 {
         let request = request_data(op, path, index, 1);
         rows.push(row(&format!("op{op}-{name}"), 1, Work::Serve { tree: tree.clone(), cells: cells.clone(), request }));
     }
-    let place = Tree::read(&tree).and_then(|tree| tree.property(tree.node(path)?, index)).expect("a property");
+    let place = Tree::read(&tree).and_then(|tree| tree.property(tree.node(path).ok()?, index)).expect("a property");
     rows.push(row(&format!("reading-{name}"), 1, Work::Reading { tree: tree.clone(), cells: cells.clone(), place }));
     rows.push(row(&format!("list-{name}"), 1, Work::List { tree: tree.clone() }));
     rows.push(row(&format!("check-{name}"), 1, Work::Check { tree, cells }));
@@ -164,6 +176,7 @@ fn rows() -> Vec<Row> {
     tree_rows(&mut rows, "bench", bench::tree().write(), bench::CELLS.to_vec(), &[1, 2], 1);
     step_row(&mut rows);
     tree_rows(&mut rows, "largest", bench::largest().write(), vec![0; 640], &[1; 16], 2);
+    missing_rows(&mut rows);
     sheet_rows(&mut rows, "bench", bench::tree().write(), bench::CELLS.to_vec());
     let (tree, cells) = (bench::settings().write(), bench::settings_cells());
     sheet_rows(&mut rows, "settings", tree.clone(), cells.clone());
@@ -198,7 +211,7 @@ fn library_once(work: &mut Work, desk: &mut Desk) -> u8 {
                 let (lent, len) = (cells.as_mut_ptr(), cells.len());
                 let (asked, asked_len) = (request.as_ptr(), request.len());
                 pq_serve_data(
-                    tree.as_ptr(), tree.len(), lent, len, 1, asked, asked_len, out, out_len, &mut long, &mut short,
+                    tree.as_ptr(), tree.len(), lent, len, 1, asked, asked_len, out, out_len, &mut long, &mut short, &mut other,
                 )
             }
             Work::Check { tree, cells } => pq_check(tree.as_ptr(), tree.len(), cells.as_ptr(), cells.len()),
@@ -322,14 +335,14 @@ fn best(row: &mut Row) -> [f64; 2] {
     best
 }
 
-/// Both must come to the same number, and to 0, but for bytes fed, which end no frame, and frames whose data is no request.
+/// Both must come to the row's number; to the same one for bytes fed, which end no frame, and frames whose data is no request.
 fn agree(row: &mut Row) -> bool {
     let ours = library_once(&mut row.work, &mut Desk::new());
     if let Work::Feed { at, .. } = &mut row.work {
         *at = 0;
     }
     let other = matches!(row.work, Work::Feed { .. } | Work::ReadSerial { .. });
-    ours == second_once(&mut row.work, &mut Desk::new()) && (ours == 0 || other)
+    ours == second_once(&mut row.work, &mut Desk::new()) && (ours == row.number || other)
 }
 
 fn main() {

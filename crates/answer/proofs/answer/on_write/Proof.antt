@@ -26,17 +26,17 @@ lent : (c : tie.After-slice-known4) → start-of c .args .cells .now ≡ cellsFo
 lent c = lent-form (start-of c .args .tree .now) (start-of c .args .cells .now) (start-of c .pre .1 .0)
 
 -- What is answered, by what the write did.
-wrote : (c : tie.After-slice-known4) {did : Outcome} {n size action : ℕ} {cells : List ℕ}
+wrote : (c : tie.After-slice-known4) {did : Outcome} {n size action missing : ℕ} {cells : List ℕ}
     → let put = c .before .before in
     let start = start-of c in
     let cs = cellsIn (start .args .cells .now) in
     meaning (put .before .before .before .before .before .before .outcome-of .result) ≡ did → n ≡ writeNumber did → size ≡ put .put-written .result
-    → action ≡ actionNumber (actionOf did (start .args .place))
+    → action ≡ actionNumber (actionOf did (start .args .place)) → missing ≡ 0
     → cells ≡ cellsForm (cellsAfter did cs (start .args .place) (start .args .asked .value))
     → Answers
     (onWrite cs (start .args .place) (requestIn (start .args .asked)) (outcome (propertyIn (seen (start .args .tree .now)) (start .args .place)) (start .args .asked .value)))
-    (start .args .out .now) n size action cells (put .put-written .last .1 .1 .0)
-wrote c is number len action cells =
+    (start .args .out .now) n size action missing cells (put .put-written .last .1 .1 .0)
+wrote c is number len action missing cells =
     let put = c .before .before in
     let request = put .before .before .before .before in
     let told = request .before .before in
@@ -48,7 +48,7 @@ wrote c is number len action cells =
     (omega (arith, start .pre .0, write-size asked (path-short (start .args .asked) (start .pre .1 .1 .0)) o .most))
     (start .pre .1 .1 .1 .0)
     (put .put-written .ensures))
-    number len action cells
+    number len action missing cells
 
 outcome-of-requires : tie.Need-outcome-of-requires
 outcome-of-requires c κs = search needs
@@ -102,7 +102,7 @@ returns c =
     let arm = stored .before .before in
     let put = arm .before .before in
     let start = start-of put in
-    wrote put (ap meaning (arm .enum-told .given .1)) refl refl refl
+    wrote put (ap meaning (arm .enum-told .given .1)) refl refl refl refl
     (saved-cells (cellsIn (start .args .cells .now)) (start .args .place) (start .args .asked .value) (lent put) (stored .store-word .ensures))
 
 same-length-3 : tie.Need-same-length-3
@@ -112,7 +112,7 @@ returns-2 : tie.Need-returns-2
 unfolding writeNumber actionOf cellsAfter
 returns-2 c =
     let put = c .before .before in
-    wrote put (ap meaning (c .enum-told2 .given .1)) refl refl refl (lent put)
+    wrote put (ap meaning (c .enum-told2 .given .1)) refl refl refl refl (lent put)
 
 same-length-4 : tie.Need-same-length-4
 same-length-4 c = search needs
@@ -123,7 +123,7 @@ returns-3 c =
     let arm = c .before in
     let put = arm .before .before in
     let done = c .not-saved .ensures in
-    wrote put (ap meaning (arm .enum-told3 .given .1)) (done .0) (done .1 .0) (done .1 .1) (lent put)
+    wrote put (ap meaning (arm .enum-told3 .given .1)) (done .0) (done .1 .0) (done .1 .1 .0) (done .1 .1 .1) (lent put)
 
 same-length-5 : tie.Need-same-length-5
 same-length-5 c = search needs
@@ -134,7 +134,7 @@ returns-4 c =
     let arm = c .before in
     let put = arm .before .before in
     let done = c .not-saved2 .ensures in
-    wrote put (ap meaning (arm .enum-told4 .given .1)) (done .0) (done .1 .0) (done .1 .1) (lent put)
+    wrote put (ap meaning (arm .enum-told4 .given .1)) (done .0) (done .1 .0) (done .1 .1 .0) (done .1 .1 .1) (lent put)
 
 same-length-6 : tie.Need-same-length-6
 same-length-6 c = search needs
@@ -145,7 +145,7 @@ returns-5 c =
     let arm = c .before in
     let put = arm .before .before in
     let done = c .not-saved3 .ensures in
-    wrote put (ap meaning (arm .enum-told5 .given .1)) (done .0) (done .1 .0) (done .1 .1) (lent put)
+    wrote put (ap meaning (arm .enum-told5 .given .1)) (done .0) (done .1 .0) (done .1 .1 .0) (done .1 .1 .1) (lent put)
 
 pub on-write-spec : {M : Type 1} → statement M
 on-write-spec =

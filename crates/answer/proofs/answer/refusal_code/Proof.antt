@@ -1,6 +1,6 @@
 -- `answer::answer::refusal_code` meets its contract. Assumes nothing.
 use borrow.Author.Tests.{eq-eqb, ne-eqb}
-use Rattle.protocol.specs.Numbers.{disabled, unknownCommand, badParameter}
+use Rattle.protocol.specs.Numbers.{disabled, unknownCommand, noReading}
 use Rattle.protocol.specs.Answer.{refusalCode}
 use Rattle.answer.proofs.answer.refusal_code.Statement.{statement}
 use Rattle.answer.proofs.answer.refusal_code.Tie as tie
@@ -22,7 +22,7 @@ returns-3 c =
     simp (
       ne-eqb n disabled (c .before .before .if1 .left),
       ne-eqb n unknownCommand (c .before .if2 .left),
-      eq-eqb n badParameter (c .if3 .taken),
+      eq-eqb n noReading (c .if3 .taken),
     )
 
 returns-4 : tie.Need-returns-4
@@ -32,7 +32,7 @@ returns-4 c =
     simp (
       ne-eqb n disabled (c .before .before .if1 .left),
       ne-eqb n unknownCommand (c .before .if2 .left),
-      ne-eqb n badParameter (c .if3 .left),
+      ne-eqb n noReading (c .if3 .left),
     )
 
 pub refusal-code-spec : {M : Type 1} → statement M

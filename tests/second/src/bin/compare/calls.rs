@@ -8,8 +8,9 @@ use second::serve::Served;
 use second::sheet::Written;
 use second::{buslink, cells, frame, listing, request, serve, sheet, stream, tree};
 
-/// What numbers that are handed back hold before the call: a word and the fields of a request hold it still after a refusal.
-const UNSET: u64 = 0xEEEE_EEEE_EEEE_EEEE;
+/// What numbers that are handed back hold before the call: a word, an indicator and the fields of a request hold it still after a
+/// refusal, and every other one is overwritten.
+pub const UNSET: u64 = 0xEEEE_EEEE_EEEE_EEEE;
 
 /// Numbers that a call hands back.
 struct Back {
@@ -36,7 +37,7 @@ impl Back {
     }
 
     fn served(&self) -> [u64; 5] {
-        two(self.long[0], self.short[0].into())
+        served_fields(self.long[0], self.short[0], self.short[1])
     }
 
     fn indicator(&self) -> [u64; 5] {
@@ -48,6 +49,11 @@ fn request_fields(op: u8, path: &[u8], len: usize, index: u8, value: u32) -> [u6
     let half = |bytes: &[u8]| u64::from_be_bytes(bytes.try_into().unwrap());
     let small = u64::from(op) << 48 | u64::from(index) << 32 | u64::from(value);
     [small, len as u64, half(&path[..8]), half(&path[8..]), 0]
+}
+
+/// The reply's length, the place of an action, and the length of the part of the path that no node has.
+fn served_fields(len: usize, action: u8, missing: u8) -> [u64; 5] {
+    [len as u64, action.into(), missing.into(), 0, 0]
 }
 
 fn indicator_fields(value: i32, status: u8, format: u8) -> [u64; 5] {
@@ -168,15 +174,15 @@ unsafe fn call_serve(i: &Input, lent: &mut Lent, back: &mut Back) -> (u8, [u64; 
     let (cells, cells_len) = lend(&mut lent.cells);
     let (bytes, bytes_len) = lend(&mut lent.bytes);
     let (out, out_len) = lend(&mut lent.out);
-    let (len, action) = (&mut back.long[0], &mut back.short[0]);
+    let (len, [action, missing]) = (&mut back.long[0], &mut back.short);
     let number = match i.call {
         Call::ServeData => {
-            pq_serve_data(tree, tree_len, cells, cells_len, i.host, bytes, bytes_len, out, out_len, len, action)
+            pq_serve_data(tree, tree_len, cells, cells_len, i.host, bytes, bytes_len, out, out_len, len, action, missing)
         }
         Call::ServeSerial => pq_serve_serial(
-            tree, tree_len, cells, cells_len, i.host, i.address, bytes, bytes_len, out, out_len, len, action,
+            tree, tree_len, cells, cells_len, i.host, i.address, bytes, bytes_len, out, out_len, len, action, missing,
         ),
-        _ => pq_serve_udp(tree, tree_len, cells, cells_len, i.host, bytes, bytes_len, out, out_len, len, action),
+        _ => pq_serve_udp(tree, tree_len, cells, cells_len, i.host, bytes, bytes_len, out, out_len, len, action, missing),
     };
     (number, back.served())
 }
@@ -294,7 +300,7 @@ fn feed(i: &Input, lent: &mut Lent) -> (u8, [u64; 5]) {
 }
 
 fn served(served: Served) -> (u8, [u64; 5]) {
-    (served.number, two(served.len, served.action.into()))
+    (served.number, served_fields(served.len, served.action, served.missing))
 }
 
 fn listed(listed: Listed) -> (u8, [u64; 5]) {

@@ -1,7 +1,8 @@
 //! The cases of document 01 and of its readings, each with the bytes the paper gives; of document 02, the bench tree's listing, its
-//! sheet and its Buslink frames, stray 10h, and steps.
-use crate::input::{Call, Input};
+//! sheet and its Buslink frames, stray 10h, steps, and parts of a path.
+use crate::input::{Call, Input, Lent};
 use crate::random::Random;
+use crate::requests::TRANSPORTS;
 use crate::sheet_sweep::tree_of;
 use crate::sheets::setting;
 use crate::strays::at_every_cut;
@@ -15,7 +16,7 @@ fn bytes(hex: &str) -> Vec<u8> {
 }
 
 /// Request, number, reply; the read has its status byte (PDI 5.4).
-const SERVED: [(&str, u8, &str); 17] = [
+const SERVED: [(&str, u8, &str); 16] = [
     ("B4 00", 0, "55"),
     ("B4 01 01", 0, "B4 01 01 02 00 42 6F 78 00"),
     (
@@ -31,12 +32,41 @@ const SERVED: [(&str, u8, &str); 17] = [
     ("B4 04 01 02 03 00 00000000", 0, "B4 04 01 02 03 00 00000000 02"),
     ("B4 05 01 01 01 00 00000000", 13, "B4 05 01 01 01 00 00000000 00 52 65 61 64 20 6F 6E 6C 79 00"),
     ("B4 04 01 02 01 00 000000", 11, "54"),
-    ("B4 03 01 03 01", 11, "54"),
     ("B4 06", 10, "59"),
     ("B4", 11, "54"),
     ("FF", 10, "59"),
     ("B4 00 01", 11, "54"),
     ("B4 01 01 00", 11, "54"),
+];
+
+/// Requests of the bench tree that are answered with 54, the number, and the length of the part of the path that no node has. The
+/// first is marked in document 01.
+const NOT_THERE: [(&str, u8, u64); 25] = [
+    ("B4 03 01 03 01", 15, 2),
+    ("B4 01 02", 15, 1),
+    ("B4 01 FF", 15, 1),
+    ("B4 01 01 03", 15, 2),
+    ("B4 01 01 01 01", 15, 3),
+    ("B4 01 01 01 01 01", 15, 3),
+    ("B4 01 01 03 05 07", 15, 2),
+    ("B4 01 02 01 01", 15, 1),
+    ("B4 01 01 02 FF", 15, 3),
+    ("B4 01 01 01 01 01 01 01 01 01 01 01 01 01 01 01 01 01", 15, 3),
+    ("B4 02 01 01 01 01", 15, 3),
+    ("B4 03 02 01", 15, 1),
+    ("B4 03 01 FF FF", 15, 2),
+    ("B4 04 01 03 01 00 00000000", 15, 2),
+    ("B4 05 01 02 01 01 00 00000000", 15, 3),
+    ("B4 02 01 01", 16, 0),
+    ("B4 03 01 01 03", 16, 0),
+    ("B4 03 01 02 81", 16, 0),
+    ("B4 04 01 02 04 00 00000000", 16, 0),
+    ("B4 05 01 02 FF 00 00000001", 16, 0),
+    ("B4 03 02 00", 11, 0),
+    ("B4 04 01 03 01 00 000000", 11, 0),
+    ("B4 05 02 01 01 00 0000000000", 11, 0),
+    ("B4 01 02 02 02 02 02 02 02 02 02 02 02 02 02 02 02 02 02", 11, 0),
+    ("B4 00 02", 11, 0),
 ];
 
 /// Address, data, frame.
@@ -74,7 +104,7 @@ const READINGS: [[(u8, u32); 2]; 6] = [
     [(0, 4), (0, 4)],
     [(0, 0), (0, 0)],
     [(12, 0), (12, 0)],
-    [(11, 0), (11, 0)],
+    [(16, 0), (16, 0)],
 ];
 
 /// Datagrams, the number, and where the data stands: its offset and length.
@@ -174,6 +204,7 @@ pub fn run(random: &Random, tally: &mut Tally) {
     send_frames(tally);
     receive_frames(tally);
     serve_all(tally);
+    look_for_all(tally);
     write_steps(tally);
     each_code(tally);
     read_all(tally);
@@ -295,10 +326,28 @@ fn serve_all(tally: &mut Tally) {
         (input.tree, input.cells, input.host, input.bytes, input.room) = (&tree, &second::bench::CELLS, 1, &request, 256);
         let seen = tally.compare(&input);
         let same = seen.number == number && seen.fields[0] == reply.len() as u64 && seen.lent.out[..reply.len()] == reply;
-        tally.expect(same, "the reply is the paper's", &input);
+        tally.expect(same && seen.fields[2] == 0, "the reply is the paper's", &input);
         input.host = 0;
         let seen = tally.compare(&input);
         tally.expect(seen.number == 9 && seen.lent.out[0] == 0x57, "57 where host functions are off", &input);
+    }
+}
+
+/// By every transport: the reply is 54, no cell changes, and no action is told.
+fn look_for_all(tally: &mut Tally) {
+    let tree = second::bench::tree().write();
+    for (request, number, missing) in NOT_THERE {
+        for transport in TRANSPORTS {
+            let (string, reply) = (transport.carry(&bytes(request), 0x10), transport.carry(&[0x54], 0x10));
+            let (call, room) = transport.call();
+            let mut input = Input { tree: &tree, bytes: &string, address: 0x10, host: 1, room, ..Input::of(call) };
+            input.cells = &second::bench::CELLS;
+            let mut lent = Lent::of(&input);
+            lent.out[..reply.len()].copy_from_slice(&reply);
+            let seen = tally.compare(&input);
+            let told = seen.number == number && seen.fields[..3] == [reply.len() as u64, 255, missing];
+            tally.expect(told && seen.lent == lent, "the part of the path is the paper's", &input);
+        }
     }
 }
 

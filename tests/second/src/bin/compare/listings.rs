@@ -99,7 +99,7 @@ fn property_lines(draft: &Draft, place: usize) -> String {
 }
 
 /// A tree of which the parents and the nodes of properties alone are given; the texts change from turn to turn.
-fn draft(parents: &[usize], nodes: &[usize], turn: usize) -> Draft {
+pub fn draft(parents: &[usize], nodes: &[usize], turn: usize) -> Draft {
     let text = |place: usize| TEXTS[(turn + place) % TEXTS.len()].to_vec();
     let property = |(place, node): (usize, &usize)| {
         let mut property = DraftProperty {
@@ -134,7 +134,7 @@ fn every_shape(tally: &mut Tally, nodes: usize, properties: usize) {
 }
 
 /// One of so many for each, all of them over the turns.
-fn chosen(choices: &[usize], mut turn: usize) -> Vec<usize> {
+pub fn chosen(choices: &[usize], mut turn: usize) -> Vec<usize> {
     let mut chosen = Vec::new();
     for count in choices {
         chosen.push(turn % count);
@@ -145,7 +145,7 @@ fn chosen(choices: &[usize], mut turn: usize) -> Vec<usize> {
 
 /// A path down to depth 16, by the tenth child at some levels and by an only child at the others; 64 nodes, what is left of them
 /// below the device. The first property is the device's, all others the deepest node's.
-fn stairs(tens: usize, properties: usize) -> Draft {
+pub fn stairs(tens: usize, properties: usize) -> Draft {
     let (mut parents, mut last) = (vec![0], 0);
     for level in 0..LEVELS {
         let count = if tens >> level & 1 == 1 { 10 } else { 1 };

@@ -12,6 +12,8 @@ mod largest;
 mod library;
 mod listings;
 mod mistakes;
+mod path_sweep;
+mod paths;
 mod random;
 mod requests;
 mod sheet_sweep;
@@ -46,6 +48,7 @@ fn main() {
         listings::run(&mut tally);
         sheet_sweep::run(&random, &mut tally);
         step_sweep::run(&random, &mut tally);
+        path_sweep::run(&mut tally);
         buslink_sweep::run(&random, &mut tally);
     }
     for round in 0..(ROUNDS * times) as usize {

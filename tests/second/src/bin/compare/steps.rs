@@ -96,7 +96,7 @@ pub fn write(tally: &mut Tally, page: &Page, cells: &[u8], place: usize, value: 
             lent.cells[5 * place..5 * place + 4].copy_from_slice(&value.to_be_bytes());
         }
         let seen = tally.compare(&input);
-        let same = seen.number == number && seen.fields[..2] == [reply.len() as u64, action] && seen.lent == lent;
+        let same = seen.number == number && seen.fields[..3] == [reply.len() as u64, action, 0] && seen.lent == lent;
         tally.expect(same, "a write is judged by Read only, Range and Step", &input);
         tally.meet(reason(property, value, op));
     }

@@ -5,7 +5,7 @@ use crate::input::{Input, Seen, CALLS};
 
 const MOST_SHOWN: usize = 10;
 
-/// Why a number was given, where it has other reasons too (document 02, section 6).
+/// Why a number was given, where it has other reasons too (document 02, sections 6 and 7).
 #[derive(Clone, Copy, PartialEq)]
 pub enum Reason {
     Step,
@@ -16,10 +16,20 @@ pub enum Reason {
     SheetWritten,
     /// A step code of 12 to 15 in a type 1 property of this sort.
     Code(Sort),
+    /// 15 for a request of this op.
+    NoNode(u8),
+    /// 15 that tells this length.
+    Missing(u8),
+    /// 16 for a request of this op.
+    NoProperty(u8),
+    /// 16 for a reading.
+    NoPlace,
+    /// 11 for data of no shape whose path no node has.
+    ShapeFirst,
 }
 
-/// Every reason that must have been met, with what is told of it.
-const REASONS: [(Reason, &str); 11] = [
+/// Those that are not counted by op or by length.
+const REASONS: [(Reason, &str); 13] = [
     (Reason::Step, "13 for the step, op 4"),
     (Reason::StepText, "13 with the text Step, op 5"),
     (Reason::RangeBeforeStep, "13 with the text Range, off the step too"),
@@ -31,13 +41,25 @@ const REASONS: [(Reason, &str); 11] = [
     (Reason::Code(Sort::Action), "1 for the step code of an action"),
     (Reason::Code(Sort::ReadOnly), "1 for the step code of a property with read alone"),
     (Reason::Code(Sort::Neither), "1 for the step code of a property without read and write"),
+    (Reason::NoPlace, "16 for a reading of no property"),
+    (Reason::ShapeFirst, "11 for the shape, a path that no node has"),
 ];
+
+/// Every reason that must have been met, with what is told of it.
+fn reasons() -> Vec<(Reason, String)> {
+    let mut reasons: Vec<(Reason, String)> = REASONS.map(|(reason, what)| (reason, what.to_string())).to_vec();
+    reasons.extend((1..=5).map(|op| (Reason::NoNode(op), format!("15 by op {op}"))));
+    reasons.extend((2..=5).map(|op| (Reason::NoProperty(op), format!("16 by op {op}"))));
+    reasons.extend((1..=16).map(|len| (Reason::Missing(len), format!("15 with length {len}"))));
+    reasons
+}
 
 pub struct Tally {
     /// How often each number was met, for each call.
     met: Vec<[u64; 256]>,
-    /// How often each reason was met.
-    reasons: [u64; REASONS.len()],
+    /// The reasons that must be met, and how often each one was.
+    reasons: Vec<(Reason, String)>,
+    counts: Vec<u64>,
     differences: usize,
     /// Sentences that did not hold, apart from the comparison.
     broken: usize,
@@ -45,7 +67,9 @@ pub struct Tally {
 
 impl Tally {
     pub fn new() -> Tally {
-        Tally { met: vec![[0; 256]; CALLS.len()], reasons: [0; REASONS.len()], differences: 0, broken: 0 }
+        let reasons = reasons();
+        let counts = vec![0; reasons.len()];
+        Tally { met: vec![[0; 256]; CALLS.len()], reasons, counts, differences: 0, broken: 0 }
     }
 
     /// Gives an input to both and compares all they made of it; the library's is handed back.
@@ -75,16 +99,16 @@ impl Tally {
 
     /// An input whose number was given for this reason.
     pub fn meet(&mut self, reason: Option<Reason>) {
-        let place = REASONS.iter().position(|(other, _)| Some(*other) == reason);
-        place.into_iter().for_each(|place| self.reasons[place] += 1);
+        let place = self.reasons.iter().position(|(other, _)| Some(*other) == reason);
+        place.into_iter().for_each(|place| self.counts[place] += 1);
     }
 
     /// Prints the counts of the reasons; how many were never met.
     fn report_reasons(&self) -> usize {
-        for ((_, what), count) in REASONS.iter().zip(self.reasons) {
-            println!("{what}: {count} inputs{}", if count == 0 { ", which was never met" } else { "" });
+        for ((_, what), count) in self.reasons.iter().zip(&self.counts) {
+            println!("{what}: {count} inputs{}", if *count == 0 { ", which was never met" } else { "" });
         }
-        self.reasons.iter().filter(|count| **count == 0).count()
+        self.counts.iter().filter(|count| **count == 0).count()
     }
 
     /// Prints the counts; whether all was well.

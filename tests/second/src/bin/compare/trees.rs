@@ -3,6 +3,7 @@ use crate::buslink;
 use crate::draft::{broken, Break, Draft, BREAKS};
 use crate::input::{Call, Input};
 use crate::listings;
+use crate::paths;
 use crate::random::Random;
 use crate::requests;
 use crate::sheets;
@@ -27,6 +28,7 @@ pub fn run(random: &Random, tally: &mut Tally, round: usize) {
         read(random, tally, &draft, &tree, &cells);
     }
     restore(random, tally, &draft, &tree, &cells);
+    paths::run(random, tally, &draft, &cells);
     break_one(random, tally, &draft, round);
     change(random, tally, &draft);
 }
