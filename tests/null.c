@@ -189,6 +189,7 @@ static void on_transports(uint8_t *none)
     EXPECT(1, pq_serve_serial(none, 0, none, 0, 1, 0, none, 0, none, 0, &len, &action, anew()));
     EXPECT(0, missing);
     EXPECT(8, pq_serve_serial(tree, sizeof tree, none, 0, 1, 0, none, 0, none, 0, &len, &action, anew()));
+    EXPECT(0, missing);
     EXPECT(2, pq_serve_serial(tree, sizeof tree, none, 0, 1, 0, none, 0, out, sizeof out, &len, &action, anew()));
     EXPECT(0, missing);
     EXPECT(0,
@@ -200,6 +201,7 @@ static void on_transports(uint8_t *none)
     EXPECT(1, pq_serve_udp(none, 0, none, 0, 1, none, 0, none, 0, &len, &action, anew()));
     EXPECT(0, missing);
     EXPECT(8, pq_serve_udp(tree, sizeof tree, none, 0, 1, none, 0, none, 0, &len, &action, anew()));
+    EXPECT(0, missing);
     EXPECT(2, pq_serve_udp(tree, sizeof tree, none, 0, 1, none, 0, out, sizeof out, &len, &action, anew()));
     EXPECT(0, missing);
     EXPECT(0,

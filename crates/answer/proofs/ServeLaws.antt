@@ -25,7 +25,7 @@ use Rattle.tree.specs.Seen.{seen}
 use Rattle.cells.specs.Cells.{cellsIn}
 use Rattle.cells.specs.Lent.{isLent, lentNumber}
 use Rattle.cells.proofs.CellLaws.{lent-done, lent-refused}
-use Rattle.answer.specs.Steps.{answerAsked, Answers}
+use Rattle.answer.specs.Steps.{answerAsked, Rejects, Answers}
 use Rattle.answer.proofs.AnswerLaws.{lent-sound}
 use Rattle.answer.specs.Serve.{Open, rejected, inForm, serve, Call, serving, Serves}
 
@@ -64,14 +64,14 @@ module _ (k : Call) where
   serve-by t u v e f g = rw (e, f, g)
 
   -- Nothing written, no cell changed.
-  gives-row : {n m given len action missing : ℕ} → serving k ≡ rejected (k .cells) m → n ≡ m → (given ≡ n) × ((len ≡ 0) × ((action ≡ 255) × (missing ≡ 0)))
+  gives-row : {n m given len action missing : ℕ} → serving k ≡ rejected (k .cells) m → n ≡ m → Rejects n given len action missing
       → (out : List ℕ) → Serves (serving k) out given len action missing (k .cells) out
   gives-row {given = given} {len = len} {action = action} {missing = missing} e f away out =
       subst (λ s. Serves s out given len action missing (k .cells) out) (sym e)
       (record { number = away .0 ∙ f; len = away .1 .0; acts = away .1 .1 .0; tells = away .1 .1 .1; cells = refl; bytes = sym (over-nil out) })
 
   -- Rows 1 and 8.
-  pub serve-unlent : {n given len action missing : ℕ} → n ≡ lentRow k → (n ≡ done → ⊥) → (given ≡ n) × ((len ≡ 0) × ((action ≡ 255) × (missing ≡ 0)))
+  pub serve-unlent : {n given len action missing : ℕ} → n ≡ lentRow k → (n ≡ done → ⊥) → Rejects n given len action missing
       → (out : List ℕ) → Serves (serving k) out given len action missing (k .cells) out
   serve-unlent {n} {given} {len} {action} {missing} e u away out = go (isLent (k .tree) (k .cells)) (ltb (k .room) (k .least)) refl refl e
     where
@@ -92,7 +92,7 @@ module _ (k : Call) where
   -- The rows of what was received, and the answer.
   module _ (o : Open k) where
     pub serve-refused : {n given len action missing : ℕ} → n ≡ k .string .number → (k .string .number ≡ done → ⊥)
-        → (given ≡ n) × ((len ≡ 0) × ((action ≡ 255) × (missing ≡ 0))) → (out : List ℕ) → Serves (serving k) out given len action missing (k .cells) out
+        → Rejects n given len action missing → (out : List ℕ) → Serves (serving k) out given len action missing (k .cells) out
     serve-refused e u away out =
         gives-row
         (serve-by true false false (o .lent) (le-ltb (k .room) (k .least) (o .roomy)) (ne-eqb (k .string .number) done u)) e away out

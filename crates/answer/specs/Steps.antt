@@ -31,6 +31,10 @@ unfoldable pub answerAsked : Tree → List Cell → Bool → Asked → Answer
 answerAsked t cs true a = ifAsked outcome failureNumber t cs a
 answerAsked t cs false a = refuse cs disabled
 
+-- A refusal of rows 1 to 8, by value: nothing written, no action, no length.
+abbrev pub Rejects : ℕ → ℕ → ℕ → ℕ → ℕ → Type 0
+Rejects number n size action missing = (n ≡ number) × ((size ≡ 0) × ((action ≡ noAction) × (missing ≡ 0)))
+
 -- A refusal, its code at the front of an output, and the length that it tells.
 pub record Refuses (number len : ℕ) (out : List ℕ) (n size action missing : ℕ) (out′ : List ℕ) : Type 0 where
   pub number-is : n ≡ number

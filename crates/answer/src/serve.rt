@@ -18,10 +18,11 @@ ghost use lib.Dec.{ltb};
 ghost use Rattle.protocol.specs.Numbers.{done, unsound, noRoom};
 ghost use Rattle.cells.specs.Lent.{isLent};
 ghost use Rattle.answer.specs.Serve.{serveData, serveSerial, serveUdp, Serves};
+ghost use Rattle.answer.specs.Steps.{Rejects};
 
 // A refusal of rows 1 to 8.
 fn rejected(number: u8) -> Served
-    ensures { λ r. ⌜ (r .number ≡ number) × ((r .len ≡ 0) × ((r .action ≡ 255) × (r .missing ≡ 0))) ⌝ }
+    ensures { λ r. ⌜ Rejects number (r .number) (r .len) (r .action) (r .missing) ⌝ }
 {
     Served {
         number,
