@@ -1,4 +1,6 @@
 // Requests answered from a lent tree and its cells, over each of the three transports: request data, serial strings, datagrams.
+#![tactic(auto)]
+
 mod answer;
 pub mod serve;
 

@@ -1,5 +1,7 @@
 // The bench program: a stream from standard input over the bench tree, address 0, host functions on (document 01, Bench tree
 // and its cases). What it does with each part of the input is `console::bench::step`.
+#![tactic(auto)]
+
 ghost use Rattle.std.specs.Prelude.{◌≡◌, true};
 ghost use Rattle.stream.specs.State.{has_form};
 ghost use Rattle.console.specs.Steps.{Progress};

@@ -11,6 +11,8 @@
 // Sending takes two lines: in 70 the bytes are the data, and none where it is refused; in 71 they are those of the identifier. In 72
 // they are the records afterwards; in 73 those of the mask of usable indicators; in 74 those of each record, its value, status and
 // format; in 75 those of one.
+#![tactic(auto)]
+
 ghost use Rattle.protocol.specs.Bytes.{word};
 ghost use Rattle.protocol.specs.Buffer.{Put, fitting};
 

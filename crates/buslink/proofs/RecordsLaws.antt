@@ -163,8 +163,11 @@ module _ (base sub i : ℕ) (bs : List ℕ) (rs : List Indicator) where
           records = ap (λ z. carried_out z rs) accepted_is ∙ carried_stored ∙ ap (λ z. z.records) l;
         }
 
+    -- What is not refused is for fifteen records.
+    pub plan_count : length rs ≡ indicators
+    plan_count = eqb-true (length rs) indicators (judged_parts (eqb (length rs) indicators) base sub i bs answered).0
+
     pub plan_within : (p.at < length rs) × (p.then < length rs)
     plan_within =
-        let count = eqb-true (length rs) indicators (judged_parts (eqb (length rs) indicators) base sub i bs answered).0 in
         let bounds = type_bounds (length rs) base sub i bs answered in
-        rw accepted_is (places_within (type_in i) count bounds (eqb (type_in i) last_type) refl)
+        rw accepted_is (places_within (type_in i) plan_count bounds (eqb (type_in i) last_type) refl)

@@ -6,7 +6,7 @@ ghost use Rattle.buslink.specs.Indicator.{bytes_of, indicator_in};
 ghost use Rattle.buslink.specs.Steps.{usable_byte};
 
 // The value is a word of 32 bits, signed; the status is as its bits stand in the fourth byte (source 000, 4.7).
-#[derive(Drop)]
+#[derive(Clone, Copy)]
 pub struct Indicator {
     pub value: u32,
     pub status: u8,

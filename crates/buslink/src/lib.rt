@@ -1,5 +1,7 @@
 // Buslink over CAN (document 02, section 5; source 000): the frames in which a station sends its probes, and a station's receiver.
 // Every call gets what it is lent as bytes (docs/FORMATS.md), or as records, and trusts none of it.
+#![tactic(auto)]
+
 mod identifier;
 pub mod indicator;
 mod probe;

@@ -1,4 +1,6 @@
 // A call of the library by its kind, for the program `cases`: numbers and slices in, a number and the first bytes of an output out.
+#![tactic(auto)]
+
 mod listings;
 mod readings;
 mod requests;

@@ -9,6 +9,8 @@
 // value (four bytes), each high byte first. Lent are cells, a stream state or records; where the field is empty, they are as the line
 // before left them. The kinds stand in the files of crates/calls/src and crates/bus_calls/src. What a kind does not need is 0 or empty.
 // A line that is not of this form, or whose kind is not known, prints `broken` and is the last.
+#![tactic(auto)]
+
 mod record;
 mod show;
 

@@ -1,5 +1,7 @@
 // The cells beside a lent tree: the check of both, readings, postings, and saved cells lent again. Every call gets both as
 // bytes (docs/FORMATS.md) and trusts none of them.
+#![tactic(auto)]
+
 pub mod bench;
 pub mod cell;
 pub mod check;

@@ -1,4 +1,6 @@
 // PDI requests, written out: their data, and frames and datagrams of it.
+#![tactic(auto)]
+
 ghost use Rattle.std.specs.Prelude.{◌≡◌, ◌∷◌, ◌≤◌, length};
 ghost use Rattle.protocol.specs.Numbers.{room_serial, room_udp};
 ghost use Rattle.protocol.specs.Bytes.{word};

@@ -1,4 +1,6 @@
 // PENKO's TP over UDP: datagrams, checked and written.
+#![tactic(auto)]
+
 ghost use Rattle.std.specs.Prelude.{◌≡◌, [], ◌∷◌, ◌≤◌, length};
 ghost use Rattle.protocol.specs.Numbers.{room_udp};
 ghost use Rattle.protocol.specs.Frame.{read_datagram, write_datagram, four_zeros, if_room};

@@ -1,4 +1,6 @@
 // PENKO's TP over serial: frames, written and read.
+#![tactic(auto)]
+
 pub mod buffer;
 mod checksum;
 pub mod read;

@@ -1,5 +1,7 @@
 // The program `list`: the lent form of a tree from standard input, its listing on standard output (document 02, section 1). What it
 // prints is `listing::print::print`.
+#![tactic(auto)]
+
 ghost use Rattle.std.specs.Prelude.{◌≡◌, length};
 
 use libc::{STDIN_FILENO, STDOUT_FILENO};

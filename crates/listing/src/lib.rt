@@ -1,4 +1,6 @@
 // The listing of a lent tree (document 02, section 1). Every call gets the tree as bytes (docs/FORMATS.md), sound or not.
+#![tactic(auto)]
+
 mod entry;
 mod path;
 pub mod print;

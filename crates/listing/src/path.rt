@@ -3,7 +3,7 @@ ghost use Rattle.std.specs.Prelude.{◌+◌, ◌<◌, [], ◌∷◌, ◌++◌};
 ghost use Rattle.listing.specs.Steps.{path_in, PathIs};
 
 // The numbers of a path, at the front of the array.
-#[derive(Drop)]
+#[derive(Clone, Copy)]
 pub(crate) struct Path {
     pub numbers: [u8; 16],
     pub len: usize,

@@ -20,7 +20,7 @@ pub(crate) fn walk_tree(tree: &[u8], out: &mut [u8]) -> usize
 }
 
 // The node at a place, which has a path: what is printed of it, and then its children.
-#[cycle(walk_children_walk_node)]
+#[cycle(tree_walk)]
 fn walk_node(tree: &[u8], k: usize, path: Path, out: &mut [u8], at: usize) -> usize
     requires { Stands tree.now k path.len at }
     ensures { Laid at (walk_text (seen tree.now) (subtree (seen tree.now) k (path_in path))) out.old result out.new }
@@ -33,7 +33,7 @@ fn walk_node(tree: &[u8], k: usize, path: Path, out: &mut [u8], at: usize) -> us
 
 // The children of the node at a place, in number order, each with what stands below it. They stand behind it in the list, and
 // the record of each begins with its parent.
-#[cycle(walk_children_walk_node)]
+#[cycle(tree_walk)]
 fn walk_children(tree: &[u8], k: usize, path: Path, out: &mut [u8], at: usize) -> usize
     requires { Stands tree.now k path.len at }
     ensures { Laid at (walk_text (seen tree.now) (below (drop (k + 1) (seen tree.now).nodes) (k + 1) k (path_in path) 1)) out.old result out.new }

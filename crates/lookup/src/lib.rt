@@ -1,5 +1,7 @@
 // Lookups in a lent tree: the node of a path, a child by its node number, a property by its index, and how many of them there
 // are. Every call gets the tree as bytes (docs/FORMATS.md), sound or not.
+#![tactic(auto)]
+
 ghost use Rattle.std.specs.Prelude.{◌≡◌, ◌+◌, ◌*◌, ◌<◌, length, get_or, cond, eqb};
 ghost use Rattle.protocol.specs.Tree.{numbered, children_of, properties_of, child_of, property_of, node_at};
 ghost use Rattle.protocol.specs.Path.{missing_length};
@@ -12,7 +14,7 @@ use protocol::{NodeNumber, PropertyIndex};
 use tree::{Found, NODE_SIZE, PROPERTY_SIZE, bytes, record};
 
 // Records of one size, and which of them are looked at: from one place in the list to an end.
-#[derive(Drop)]
+#[derive(Clone, Copy)]
 pub(crate) struct Table {
     pub start: usize,
     pub size: usize,

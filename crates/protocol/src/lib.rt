@@ -1,6 +1,8 @@
 // The definitions of the protocol are in specs/, and what is proved of them in proofs/. No code runs here: this file has the
 // two types that keep node numbers and property indexes apart, in the definitions and in every crate above, and the numbers
 // that code needs, under the names of specs/Numbers.antt.
+#![tactic(auto)]
+
 pub mod codes;
 
 // A node's number among the children of its parent (document 01, The tree).
@@ -8,7 +10,7 @@ pub mod codes;
 pub struct NodeNumber(pub u8);
 
 // A property's number among the properties of its node.
-#[derive(Drop)]
+#[derive(Clone, Copy)]
 pub struct PropertyIndex(pub u8);
 
 // Numbers returned (document 01).

@@ -1,4 +1,6 @@
 // The C interface of the box (include/pualirqiq.h): every call on numbers and byte slices, thin over the crates below.
+#![tactic(auto)]
+
 ghost use Rattle.std.specs.Prelude.{◌≡◌, true, length};
 ghost use Rattle.protocol.specs.Numbers.{room_data, room_serial, room_udp};
 ghost use Rattle.protocol.specs.Frame.{if_room, read_frame, read_datagram, write_frame, write_datagram};

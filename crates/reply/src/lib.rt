@@ -1,5 +1,7 @@
 // What a reply holds behind the data of its request, and what a write does. Each part is put at a place of an output, as far as
 // there is room, and the next place is returned.
+#![tactic(auto)]
+
 pub mod write;
 
 ghost use Rattle.std.specs.Prelude.{◌≡◌};

@@ -12,7 +12,7 @@ use tree::{range, record, step};
 
 // The value is saved, the action is taken, or neither: the property has no write attribute, the value is out of range, or it is not
 // on its step.
-#[derive(Drop)]
+#[derive(Clone, Copy)]
 pub enum Outcome {
     Saved,
     Taken,

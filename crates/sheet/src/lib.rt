@@ -1,5 +1,7 @@
 // The settings of a lent tree on a sheet (document 02, section 3): written from the cells, and read into them, all or nothing.
 // Every call gets tree, cells and sheet as bytes and trusts none of them.
+#![tactic(auto)]
+
 mod label;
 mod read;
 mod setting;

@@ -1,5 +1,7 @@
 // Whether lent bytes stand for a sound tree: the check, record after record. It gets the tree as bytes (docs/FORMATS.md) and
 // trusts none of them.
+#![tactic(auto)]
+
 mod parents;
 mod texts;
 

@@ -10,7 +10,7 @@ pub const STATE_LEN: usize = 261;
 
 // Where a reader stands: the phase (0 outside, 1 outside with a 10h waiting, 2 inside, 3 inside with a 10h waiting), and how
 // many content bytes it has.
-#[derive(Drop)]
+#[derive(Clone, Copy)]
 pub(crate) struct Place {
     pub phase: u8,
     pub len: usize,

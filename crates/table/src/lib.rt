@@ -1,4 +1,6 @@
 // What the table of requests allows. Reading and writing both go by it.
+#![tactic(auto)]
+
 ghost use Rattle.std.specs.Prelude.{◌≡◌};
 ghost use Rattle.protocol.specs.Request.{request_of, is_path, path_fits, index_fits, value_fits, fits};
 

@@ -1,5 +1,7 @@
 // Text put into a lent buffer: bytes, numbers, paths and lines; and numbers read. Every call that puts writes as far as there is
 // room, from a place on, and returns the place behind all that it had to write: with no room at all it only counts.
+#![tactic(auto)]
+
 pub mod line;
 pub mod number;
 pub mod read;

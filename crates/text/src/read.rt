@@ -34,7 +34,7 @@ pub fn begins(front: &[u8], bs: &[u8]) -> bool
 }
 
 // A number as its digits are read: whether it is one of 32 bits, and if so, the number.
-#[derive(Drop)]
+#[derive(Clone, Copy)]
 pub struct Sum {
     pub fits: bool,
     pub value: u32,

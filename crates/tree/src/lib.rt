@@ -1,5 +1,7 @@
 // The lent tree, and what is read from it: numbers at a place, a property's fields, the texts of nodes and properties. Every
 // call gets it as bytes (docs/FORMATS.md) and trusts none of them.
+#![tactic(auto)]
+
 pub mod bench;
 pub mod bytes;
 pub mod live;

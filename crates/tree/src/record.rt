@@ -14,7 +14,7 @@ use super::{NODE_SIZE, PROPERTY_SIZE, bytes, texts};
 use protocol::{BIT_LIVE, BIT_READ, BIT_SIGNED, BIT_STEP, BIT_WRITE, ENUMERATION, STEP_MASK};
 
 // What a property's record holds beside its texts.
-#[derive(Drop)]
+#[derive(Clone, Copy)]
 pub struct Fields {
     pub node: u8,
     pub kind: u8,

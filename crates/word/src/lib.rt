@@ -1,4 +1,6 @@
 // Numbers made of bytes, the high byte first; a word as a signed integer; and where a text ends.
+#![tactic(auto)]
+
 ghost use Rattle.std.specs.Prelude.{◌≡◌, ◌+◌, ◌*◌, ◌<◌, ◌^◌, true, [], ◌∷◌};
 ghost use Rattle.protocol.specs.Bytes.{number};
 ghost use Rattle.protocol.specs.Request.{before_zero};

@@ -1,0 +1,21 @@
+-- `buslink::probe::indicator_at` meets its contract. Assumes nothing.
+use native.Mathlib.Omega.{arith}
+use mathlib.Core.Path.{sym, ◌∙◌}
+use lib.Bits.{mask_lt}
+use Rattle.tree.specs.Seen.{seen}
+use Rattle.cells.specs.Cells.{cells_in}
+use Rattle.buslink.proofs.SendLaws.{probe_unready, probe_word}
+use Rattle.buslink.proofs.probe.indicator_at.Goals as goal
+
+pub overflow_cast-code : goal.overflow_cast-code
+overflow_cast-code c = record { fits = omega (arith, mask_lt c.read_fields-f.result.format 3) }
+
+pub returns-in_default : goal.returns-in_default
+returns-in_default c =
+    probe_unready (seen c.args.tree.now) (cells_in c.args.cells.now) c.args.place c.read_fields-f.ensures
+    (sym c.in_default.is ∙ c.reading.ensures)
+
+pub returns : goal.returns
+returns c =
+    probe_word (seen c.args.tree.now) (cells_in c.args.cells.now) c.args.place c.read_fields-f.ensures
+    (sym c.in-Word.is ∙ c.reading.ensures) c.takes_sign.ensures c.of_word.ensures

@@ -1,0 +1,35 @@
+-- `compose::write_serial` meets its contract. Assumes nothing.
+use Prim.Native.Nat.{◌≤◌}
+use native.Mathlib.Omega.{arith}
+use lib.ListN.{length}
+use Rattle.protocol.specs.Numbers.{room_serial}
+use Rattle.protocol.specs.Request.{Request, request_of, data_of, serial_form}
+use Rattle.protocol.proofs.ListLaws.{part_size}
+use Rattle.compose.proofs.WriteLaws.{refused_alike, put_for, put_for_within, put_front, emits_allowed, emits_serial}
+use Rattle.compose.proofs.write_serial.Goals as goal
+
+pub returns-then-put-ne-DONE : goal.returns-then-put-ne-DONE
+returns-then-put-ne-DONE c =
+    refused_alike room_serial (length c.args.out.now) (request_of c.args.op c.args.path.now c.args.index.0 c.args.value) c.data_for-put.ensures (serial_form c.args.address)
+    c.args.out.now c.if-put-ne-DONE.true
+
+pub slice_bounds-payload-end : goal.slice_bounds-payload-end
+slice_bounds-payload-end c =
+    let within : c.data_for-put.result.len ≤ length c.data_for-put.new.payload =
+    put_for_within (request_of c.args.op c.args.path.now c.args.index.0 c.args.value)
+    (put_for room_serial (length c.args.out.now) (request_of c.args.op c.args.path.now c.args.index.0 c.args.value) c.data_for-put.ensures c.if-put-ne-DONE.false) (omega arith) in
+    within
+
+pub slice_bounds-write_frame-end : goal.slice_bounds-write_frame-end
+slice_bounds-write_frame-end c =
+    let within : c.data_for-put.result.len ≤ length c.data_for-put.new.payload =
+    put_for_within (request_of c.args.op c.args.path.now c.args.index.0 c.args.value)
+    (put_for room_serial (length c.args.out.now) (request_of c.args.op c.args.path.now c.args.index.0 c.args.value) c.data_for-put.ensures c.if-put-ne-DONE.false) (omega arith) in
+    part_size c.data_for-put.result.len c.data_for-put.new.payload within
+
+pub returns : goal.returns
+returns c =
+    let out = c.args.out.now in
+    let p = put_for room_serial (length out) (request_of c.args.op c.args.path.now c.args.index.0 c.args.value) c.data_for-put.ensures c.if-put-ne-DONE.false in
+    emits_allowed room_serial (length out) (serial_form c.args.address) (request_of c.args.op c.args.path.now c.args.index.0 c.args.value) out p.roomy p.allowed
+    (emits_serial (request_of c.args.op c.args.path.now c.args.index.0 c.args.value) p.allowed (put_front {ys = data_of (request_of c.args.op c.args.path.now c.args.index.0 c.args.value)} p.put) c.args.address p.roomy c.write_frame.ensures)

@@ -1,0 +1,22 @@
+-- `datagram::number_of` meets its contract. Assumes nothing.
+use mathlib.Core.Path.{◌≡◌, sym, ◌∙◌}
+use mathlib.Core.Bool.{true}
+use borrow.Author.Tests.{not-true, not-false}
+use Rattle.protocol.specs.Frame.{four_zeros}
+use Rattle.datagram.proofs.UdpLaws.{number_unopened, zeros_long, number_opened}
+use Rattle.datagram.proofs.number_of.Goals as goal
+
+pub returns-then-not-four_zeros : goal.returns-then-not-four_zeros
+returns-then-not-four_zeros c = number_unopened c.args.d.now (sym c.four_zeros.ensures ∙ c.if-not-four_zeros.true)
+
+pub overflow_sub-d : goal.overflow_sub-d
+overflow_sub-d c =
+    let front : four_zeros c.args.d.now ≡ true =
+    sym c.four_zeros.ensures ∙ c.if-not-four_zeros.false in
+    zeros_long c.args.d.now front
+
+pub returns : goal.returns
+returns c =
+    let front : four_zeros c.args.d.now ≡ true =
+    sym c.four_zeros.ensures ∙ c.if-not-four_zeros.false in
+    c.size_number.ensures ∙ number_opened c.args.d.now front

@@ -1,0 +1,20 @@
+-- `frame::buffer::put_all` meets its contract. Assumes nothing.
+use Rattle.std.proofs.Common.{◌-◌, length, arith}
+use Rattle.protocol.proofs.BufferLaws.{Filling, fill_begins, fill_more, fill_full, fill_ends}
+use Rattle.frame.proofs.buffer.put_all.Goals as goal
+
+pub loop-i-init : goal.loop-i-init
+loop-i-init c = fill_begins c.args.bs.now c.args.out.now c.args.at
+
+pub returns-then-out-next : goal.returns-then-out-next
+returns-then-out-next c =
+    fill_full c.args.bs.now c.args.out.now c.args.at c.loop-i.invariant
+    (omega (arith, c.loop-i.invariant.same_length, c.if-out-next.true))
+
+pub loop-i-preserved : goal.loop-i-preserved
+loop-i-preserved c =
+    fill_more c.args.bs.now c.args.out.now c.args.at c.loop-i.invariant c.loop-i-test.true
+    c.if-out-next.false c.put-next.ensures
+
+pub returns : goal.returns
+returns c = fill_ends c.args.bs.now c.args.out.now c.args.at c.loop-i.invariant c.loop-i-test.false

@@ -1,0 +1,10 @@
+use Rattle.std.proofs.Common.{◌≡◌, ℕ, ◌+◌, ◌-◌, length, get_or, arith}
+use Rattle.protocol.specs.Numbers.{DLE}
+use Rattle.frame.proofs.CheckLaws.{Copying, copy_begins, copy_lone, copy_doubled, copy_same, copy_all, copy_short}
+use Rattle.frame.proofs.read.copy_content.Given as goal
+
+abbrev pub invariant-loop-k : goal.invariant-loop-k
+invariant-loop-k l = Copying l.s l.from l.n l.initial.out l.out l.i l.k
+
+abbrev pub decreases-loop-k : goal.decreases-loop-k
+decreases-loop-k l = l.n - l.k

@@ -1,0 +1,9 @@
+use Rattle.std.proofs.Common.{◌-◌, length, arith, length-take}
+use Rattle.frame.proofs.ContentLaws.{Tallying, tally_begins, tally_more, tally_ends}
+use Rattle.frame.proofs.read.tally_of.Given as goal
+
+abbrev pub invariant-loop-i : goal.invariant-loop-i
+invariant-loop-i l = Tallying l.content l.t l.i
+
+abbrev pub decreases-loop-i : goal.decreases-loop-i
+decreases-loop-i l = length l.content - l.i

@@ -1,0 +1,42 @@
+-- `sheet::label::differs_behind` meets its contract. Assumes nothing.
+use Prim.Native.Nat.{◌-◌, ◌<◌}
+use native.Mathlib.Omega.{arith}
+use lib.ListN.{length}
+use Rattle.tree.specs.Seen.{seen}
+use Rattle.sheet.proofs.LabelLaws.{Differing, differing_begins, differing_fails, differing_on, differing_ends}
+use Rattle.sheet.proofs.label.differs_behind.Goals as goal
+
+pub loop-j-init : goal.loop-j-init
+loop-j-init c =
+    let args = c.args in
+    differing_begins (seen args.tree.now) args.s.now args.k c.next-j.ensures
+
+pub returns-then-is_label : goal.returns-then-is_label
+returns-then-is_label c =
+    let listed : c.loop-j.j < length (seen c.args.tree.now).properties =
+    omega (arith, c.loop-j-test.true, c.property_count-count.ensures) in
+    let args = c.args in
+    differing_fails (seen args.tree.now) args.s.now args.k c.loop-j.invariant listed c.is_label.ensures c.if-is_label.true
+
+pub overflow_add-j : goal.overflow_add-j
+overflow_add-j c =
+    let listed : c.loop-j.j < length (seen c.args.tree.now).properties =
+    omega (arith, c.loop-j-test.true, c.property_count-count.ensures) in
+    omega (arith, listed)
+
+pub loop-j-smaller : goal.loop-j-smaller
+loop-j-smaller c = omega (arith, c.next-j-in-loop-j.ensures.behind)
+
+pub loop-j-preserved : goal.loop-j-preserved
+loop-j-preserved c =
+    let listed : c.loop-j.j < length (seen c.args.tree.now).properties =
+    omega (arith, c.loop-j-test.true, c.property_count-count.ensures) in
+    let args = c.args in
+    differing_on (seen args.tree.now) args.s.now args.k c.loop-j.invariant listed c.is_label.ensures c.if-is_label.false
+    c.next-j-in-loop-j.ensures
+
+pub returns : goal.returns
+returns c =
+    let args = c.args in
+    differing_ends (seen args.tree.now) args.s.now args.k c.loop-j.invariant
+    (omega (arith, c.loop-j-test.false, c.property_count-count.ensures))

@@ -1,0 +1,12 @@
+use Prim.Native.Nat.{◌-◌, ◌<◌}
+use native.Mathlib.Omega.{arith}
+use lib.ListN.{length}
+use Rattle.tree.specs.Seen.{seen}
+use Rattle.sheet.proofs.LabelLaws.{Differing, differing_begins, differing_fails, differing_on, differing_ends}
+use Rattle.sheet.proofs.label.differs_behind.Given as goal
+
+abbrev pub invariant-loop-j : goal.invariant-loop-j
+invariant-loop-j l = Differing (seen l.tree) l.s l.k l.j
+
+abbrev pub decreases-loop-j : goal.decreases-loop-j
+decreases-loop-j l = l.count - l.j

@@ -1,0 +1,119 @@
+-- `soundness::is_tree` meets its contract. Assumes nothing.
+use Prim.Native.Nat.{◌+◌, ◌*◌}
+use native.Mathlib.Omega.{arith}
+use mathlib.Core.Path.{◌≡◌, sym, ap, ap₂, ◌∙◌}
+use mathlib.Core.Bool.{Bool, true, ◌&&◌}
+use borrow.Author.Tests.{not-true, not-false}
+use lib.ListN.{drop}
+use lib.Dec.{leb}
+use Rattle.protocol.specs.Numbers.{max_nodes}
+use Rattle.tree.specs.Form.{node_size, property_size, texts_start}
+use Rattle.tree.specs.Seen.{node_count, property_count}
+use Rattle.tree.specs.Lookup.{found_of}
+use Rattle.soundness.specs.Sound.{is_tree}
+use Rattle.soundness.specs.Check.{counts_fit, parents_in, parents_fit, node_end, records_end, checked}
+use Rattle.soundness.proofs.StepLaws.{counts, uncounted, names_within, parentless, nameless, labelless, all_read}
+use Rattle.soundness.proofs.CheckLaws.{checked_exact}
+use Rattle.soundness.proofs.is_tree.Goals as goal
+
+pub returns-then-not-counts_fit : goal.returns-then-not-counts_fit
+returns-then-not-counts_fit c =
+    let exact : (t : Bool) → checked c.args.tree.now ≡ t → t ≡ is_tree c.args.tree.now =
+    λ t e. sym e ∙ checked_exact c.args.tree.now (λ i. omega (arith, c.type_inv.tree i)) in
+    exact _ (uncounted c.args.tree.now
+    (sym c.counts_fit.ensures ∙ c.if-not-counts_fit.true))
+
+pub returns-then-not-parents_sound : goal.returns-then-not-parents_sound
+returns-then-not-parents_sound c =
+    let exact : (t : Bool) → checked c.args.tree.now ≡ t → t ≡ is_tree c.args.tree.now =
+    λ t e. sym e ∙ checked_exact c.args.tree.now (λ i. omega (arith, c.type_inv.tree i)) in
+    let counts-hold : counts_fit c.args.tree.now ≡ true =
+    sym c.counts_fit.ensures ∙ c.if-not-counts_fit.false in
+    exact _
+    (parentless c.args.tree.now counts-hold
+    (sym c.parents_sound.ensures ∙ c.if-not-parents_sound.true))
+
+pub bounds-tree-1 : goal.bounds-tree-1
+bounds-tree-1 c =
+    let counts-hold : counts_fit c.args.tree.now ≡ true =
+    sym c.counts_fit.ensures ∙ c.if-not-counts_fit.false in
+    (counts c.args.tree.now counts-hold).two
+
+pub overflow_mul-start : goal.overflow_mul-start
+overflow_mul-start c = omega (arith, c.wide.ensures, c.type_inv.tree 1)
+
+pub overflow_add-start : goal.overflow_add-start
+overflow_add-start c =
+    let known = c.type_inv.tree in
+    omega (arith, c.wide.ensures, c.properties_start.ensures, known 0, known 1)
+
+pub names_end-requires : goal.names_end-requires
+names_end-requires c =
+    let counts-hold : counts_fit c.args.tree.now ≡ true =
+    sym c.counts_fit.ensures ∙ c.if-not-counts_fit.false in
+    let start_is : let bs = c.args.tree.now in c.properties_start.result + c.wide.result * property_size ≡ texts_start (node_count bs) (property_count bs) =
+    ap₂ (λ m n. m + n * property_size) c.properties_start.ensures c.wide.ensures in
+    omega (arith, start_is, (counts c.args.tree.now counts-hold).records)
+
+pub returns-in_default : goal.returns-in_default
+returns-in_default c =
+    let exact : (t : Bool) → checked c.args.tree.now ≡ t → t ≡ is_tree c.args.tree.now =
+    λ t e. sym e ∙ checked_exact c.args.tree.now (λ i. omega (arith, c.type_inv.tree i)) in
+    let counts-hold : counts_fit c.args.tree.now ≡ true =
+    sym c.counts_fit.ensures ∙ c.if-not-counts_fit.false in
+    let parents-hold : let bs = c.args.tree.now in (leb (node_count bs) max_nodes && parents_fit (parents_in bs)) ≡ true =
+    sym c.parents_sound.ensures ∙ c.if-not-parents_sound.false in
+    let start_is : let bs = c.args.tree.now in c.properties_start.result + c.wide.result * property_size ≡ texts_start (node_count bs) (property_count bs) =
+    ap₂ (λ m n. m + n * property_size) c.properties_start.ensures c.wide.ensures in
+    let names-is : let bs = c.args.tree.now in c.names_end.result ≡ found_of (records_end node_size (node_end bs) (node_count bs) (drop 2 bs) (texts_start (node_count bs) (property_count bs))) =
+    let bs = c.args.tree.now in
+    c.names_end.ensures ∙ ap (λ n. found_of (records_end node_size (node_end bs) (node_count bs) (drop 2 bs) n)) start_is in
+    exact _
+    (nameless c.args.tree.now counts-hold parents-hold (sym c.in_default.is ∙ names-is))
+
+pub labels_end-requires : goal.labels_end-requires
+labels_end-requires c =
+    let counts-hold : counts_fit c.args.tree.now ≡ true =
+    sym c.counts_fit.ensures ∙ c.if-not-counts_fit.false in
+    let start_is : let bs = c.args.tree.now in c.properties_start.result + c.wide.result * property_size ≡ texts_start (node_count bs) (property_count bs) =
+    ap₂ (λ m n. m + n * property_size) c.properties_start.ensures c.wide.ensures in
+    let names-is : let bs = c.args.tree.now in c.names_end.result ≡ found_of (records_end node_size (node_end bs) (node_count bs) (drop 2 bs) (texts_start (node_count bs) (property_count bs))) =
+    let bs = c.args.tree.now in
+    c.names_end.ensures ∙ ap (λ n. found_of (records_end node_size (node_end bs) (node_count bs) (drop 2 bs) n)) start_is in
+    names_within c.args.tree.now counts-hold (sym c.in-At.is ∙ names-is)
+
+pub returns-in_default-labels_end : goal.returns-in_default-labels_end
+returns-in_default-labels_end c =
+    let exact : (t : Bool) → checked c.args.tree.now ≡ t → t ≡ is_tree c.args.tree.now =
+    λ t e. sym e ∙ checked_exact c.args.tree.now (λ i. omega (arith, c.type_inv.tree i)) in
+    let counts-hold : counts_fit c.args.tree.now ≡ true =
+    sym c.counts_fit.ensures ∙ c.if-not-counts_fit.false in
+    let parents-hold : let bs = c.args.tree.now in (leb (node_count bs) max_nodes && parents_fit (parents_in bs)) ≡ true =
+    sym c.parents_sound.ensures ∙ c.if-not-parents_sound.false in
+    let start_is : let bs = c.args.tree.now in c.properties_start.result + c.wide.result * property_size ≡ texts_start (node_count bs) (property_count bs) =
+    ap₂ (λ m n. m + n * property_size) c.properties_start.ensures c.wide.ensures in
+    let names-is : let bs = c.args.tree.now in c.names_end.result ≡ found_of (records_end node_size (node_end bs) (node_count bs) (drop 2 bs) (texts_start (node_count bs) (property_count bs))) =
+    let bs = c.args.tree.now in
+    c.names_end.ensures ∙ ap (λ n. found_of (records_end node_size (node_end bs) (node_count bs) (drop 2 bs) n)) start_is in
+    exact _
+    (labelless c.args.tree.now counts-hold parents-hold
+    (sym c.in-At.is ∙ names-is)
+    (sym c.in_default-labels_end.is ∙ c.labels_end.ensures))
+
+pub returns : goal.returns
+returns c =
+    let exact : (t : Bool) → checked c.args.tree.now ≡ t → t ≡ is_tree c.args.tree.now =
+    λ t e. sym e ∙ checked_exact c.args.tree.now (λ i. omega (arith, c.type_inv.tree i)) in
+    let counts-hold : counts_fit c.args.tree.now ≡ true =
+    sym c.counts_fit.ensures ∙ c.if-not-counts_fit.false in
+    let parents-hold : let bs = c.args.tree.now in (leb (node_count bs) max_nodes && parents_fit (parents_in bs)) ≡ true =
+    sym c.parents_sound.ensures ∙ c.if-not-parents_sound.false in
+    let start_is : let bs = c.args.tree.now in c.properties_start.result + c.wide.result * property_size ≡ texts_start (node_count bs) (property_count bs) =
+    ap₂ (λ m n. m + n * property_size) c.properties_start.ensures c.wide.ensures in
+    let names-is : let bs = c.args.tree.now in c.names_end.result ≡ found_of (records_end node_size (node_end bs) (node_count bs) (drop 2 bs) (texts_start (node_count bs) (property_count bs))) =
+    let bs = c.args.tree.now in
+    c.names_end.ensures ∙ ap (λ n. found_of (records_end node_size (node_end bs) (node_count bs) (drop 2 bs) n)) start_is in
+    exact _
+    (all_read c.args.tree.now counts-hold parents-hold
+    (sym c.in-At.is ∙ names-is)
+    (sym c.in-At-labels_end.is ∙ c.labels_end.ensures))

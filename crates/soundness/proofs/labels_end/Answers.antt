@@ -1,0 +1,29 @@
+-- `soundness::labels_end` meets its contract. Assumes nothing.
+use Prim.Native.Nat.{◌-◌}
+use native.Mathlib.Omega.{arith}
+use mathlib.Core.Path.{sym, ◌∙◌}
+use Rattle.tree.specs.Form.{property_size, properties_start}
+use Rattle.tree.specs.Seen.{node_count, property_count}
+use Rattle.soundness.specs.Check.{property_end}
+use Rattle.soundness.proofs.StepLaws.{Going, go_begins, go_on, go_fails, go_ends, property_within}
+use Rattle.soundness.proofs.labels_end.Goals as goal
+
+pub loop-k-init : goal.loop-k-init
+loop-k-init c = go_begins (c.wide-properties.ensures ∙ c.byte_at.ensures) c.requires
+
+pub property_end-requires : goal.property_end-requires
+property_end-requires c = (omega (arith, c.loop-k.invariant.count), c.loop-k.invariant.inside)
+
+pub returns-in_default : goal.returns-in_default
+returns-in_default c =
+    go_fails c.loop-k.invariant c.loop-k-test.true
+    (sym c.in_default.is ∙ c.property_end.ensures)
+
+pub loop-k-preserved : goal.loop-k-preserved
+loop-k-preserved c =
+    go_on c.loop-k.invariant c.loop-k-test.true
+    (property_within _ _ _ c.loop-k.invariant.inside)
+    (sym c.in-At.is ∙ c.property_end.ensures)
+
+pub returns : goal.returns
+returns c = go_ends c.loop-k.invariant c.loop-k-test.false

@@ -1,0 +1,15 @@
+use Prim.Native.Nat.{ℕ, ◌-◌, ◌<◌}
+use native.Mathlib.Omega.{arith}
+use mathlib.Core.Path.{◌∙◌}
+use mathlib.Core.List.{List, [], ◌∷◌}
+use lib.ListN.{length}
+use Rattle.protocol.specs.Buffer.{farthest, Laid}
+use Rattle.protocol.proofs.LayLaws.{laid_same}
+use Rattle.text.proofs.TextLaws.{others, Telling, dotted_none, dots_begin, dots_more, dotted-ends}
+use Rattle.text.proofs.number.put_dotted.Given as goal
+
+abbrev pub invariant-loop-i : goal.invariant-loop-i
+invariant-loop-i l = (0 < l.i) × Telling others l.path l.initial.out l.initial.next l.out l.next l.i
+
+abbrev pub decreases-loop-i : goal.decreases-loop-i
+decreases-loop-i l = length l.path - l.i

@@ -1,0 +1,14 @@
+use Prim.Native.Nat.{◌-◌, ◌<◌}
+use native.Mathlib.Omega.{arith}
+use mathlib.Core.Path.{sym, ◌∙◌}
+use lib.ListN.{length}
+use Rattle.protocol.specs.Tree.{is_live}
+use Rattle.tree.specs.Seen.{seen}
+use Rattle.tree.proofs.NextLaws.{Passing, pass_begins, pass_on, next-found, next_none, live_same}
+use Rattle.tree.proofs.live.next.Given as goal
+
+abbrev pub invariant-loop-k : goal.invariant-loop-k
+invariant-loop-k l = Passing is_live (seen l.tree) l.from l.k
+
+abbrev pub decreases-loop-k : goal.decreases-loop-k
+decreases-loop-k l = l.count - l.k

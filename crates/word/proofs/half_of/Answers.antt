@@ -1,0 +1,8 @@
+-- `word::half_of` meets its contract. Assumes nothing.
+use native.Mathlib.Omega.{arith}
+use Rattle.protocol.specs.Bytes.{number_after}
+use Rattle.word.proofs.half_of.Goals as goal
+
+pub returns : goal.returns
+unfolding number_after
+returns c = omega arith

@@ -1,0 +1,8 @@
+-- `word::word_of` meets its contract. Assumes nothing.
+use native.Mathlib.Omega.{arith}
+use Rattle.protocol.specs.Bytes.{number_after}
+use Rattle.word.proofs.word_of.Goals as goal
+
+pub returns : goal.returns
+unfolding number_after
+returns c = omega arith
