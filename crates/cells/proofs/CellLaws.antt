@@ -14,7 +14,7 @@ use lib.ListN.{length, get_or, drop, set, length-drop, length-set, get_or-eq_def
 use lib.Seq.{get_or-drop, get_or-append-add, set_out, set-set, get_or-set_same}
 use lib.Dec.{eqb, ltb}
 use Rattle.protocol.specs.Numbers.{word_end, done, unsound, not_live}
-use Rattle.protocol.specs.Bytes.{Bytes, every, word, number}
+use Rattle.protocol.specs.Bytes.{Bytes, every, word}
 use Rattle.protocol.specs.Buffer.{put_at}
 use Rattle.protocol.specs.Tree.{Property, Tree, Cell, cell_in, cells_sound, is_live, property_in, posted, post}
 use Rattle.protocol.proofs.TestLaws.{and_left, and_right, and_both}

@@ -2,7 +2,6 @@
 -- Assumes nothing.
 use mathlib.Core.Path.{◌≡◌, refl}
 use mathlib.Core.List.{map}
-use Rattle.protocol.specs.Numbers
 use Rattle.protocol.specs.Bytes.{every, half, word, number_after, text, texts, sum, ordered, at_most}
 use Rattle.protocol.specs.Frame.{double, checksum, content_of, wrap, frame, size_number, if_sized}
 use Rattle.protocol.specs.Request.{is_path, fits, asked_if, before_zero, read_indexed, read_valued, read_shape, read_request}

@@ -1,8 +1,6 @@
 -- `bus_calls::records_of` is safe and ends: there is a place for each record. Assumes nothing.
-use Prim.Native.Nat.{◌-◌}
-use native.Mathlib.Omega.{arith}
-use mathlib.Core.Path.{◌≡◌, refl, ◌∙◌}
-use lib.ListN.{length, length-set}
+use mathlib.Core.Path.{refl, ◌∙◌}
+use lib.ListN.{length-set}
 use Rattle.bus_calls.proofs.records_of.Goals as goal
 
 pub loop-i-init : goal.loop-i-init

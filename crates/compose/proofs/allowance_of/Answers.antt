@@ -1,6 +1,5 @@
 -- `compose::allowance_of` meets its contract. Assumes nothing.
-use borrow.Author.Tests.{not-true, not-false}
-use Rattle.protocol.specs.Request.{Request, request_of}
+use Rattle.protocol.specs.Request.{request_of}
 use Rattle.compose.proofs.WriteLaws.{allow_unknown, allow_unfit, allow_fit}
 use Rattle.compose.proofs.allowance_of.Goals as goal
 

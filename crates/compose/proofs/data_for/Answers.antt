@@ -1,7 +1,7 @@
 -- `compose::data_for` meets its contract. Assumes nothing.
 use native.Mathlib.Omega.{arith}
 use mathlib.Core.Path.{sym, ◌∙◌}
-use Rattle.protocol.specs.Request.{Request, request_of, Allowed, data_of}
+use Rattle.protocol.specs.Request.{request_of, Allowed, data_of}
 use Rattle.protocol.proofs.BufferLaws.{put_emits, put_fits}
 use Rattle.protocol.proofs.RequestLaws.{data_of_size}
 use Rattle.compose.proofs.WriteLaws.{emits_unroomed, emits_unallowed, emits_allowed}

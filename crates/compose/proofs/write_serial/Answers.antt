@@ -3,7 +3,7 @@ use Prim.Native.Nat.{◌≤◌}
 use native.Mathlib.Omega.{arith}
 use lib.ListN.{length}
 use Rattle.protocol.specs.Numbers.{room_serial}
-use Rattle.protocol.specs.Request.{Request, request_of, data_of, serial_form}
+use Rattle.protocol.specs.Request.{request_of, data_of, serial_form}
 use Rattle.protocol.proofs.ListLaws.{part_size}
 use Rattle.compose.proofs.WriteLaws.{refused_alike, put_for, put_for_within, put_front, emits_allowed, emits_serial}
 use Rattle.compose.proofs.write_serial.Goals as goal

@@ -1,7 +1,6 @@
 -- `datagram::number_of` meets its contract. Assumes nothing.
 use mathlib.Core.Path.{◌≡◌, sym, ◌∙◌}
 use mathlib.Core.Bool.{true}
-use borrow.Author.Tests.{not-true, not-false}
 use Rattle.protocol.specs.Frame.{four_zeros}
 use Rattle.datagram.proofs.UdpLaws.{number_unopened, zeros_long, number_opened}
 use Rattle.datagram.proofs.number_of.Goals as goal

@@ -1,7 +1,6 @@
 -- `lookup::count_in` meets its contract. Assumes nothing.
-use Prim.Native.Nat.{◌-◌}
 use native.Mathlib.Omega.{arith}
-use Rattle.lookup.proofs.FindLaws.{Counting, count_begins, count_fits, count_more, count_ends}
+use Rattle.lookup.proofs.FindLaws.{count_begins, count_fits, count_more, count_ends}
 use Rattle.lookup.proofs.count_in.Goals as goal
 
 pub loop-k-init : goal.loop-k-init

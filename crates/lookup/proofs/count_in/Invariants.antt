@@ -1,6 +1,5 @@
 use Prim.Native.Nat.{◌-◌}
-use native.Mathlib.Omega.{arith}
-use Rattle.lookup.proofs.FindLaws.{Counting, count_begins, count_fits, count_more, count_ends}
+use Rattle.lookup.proofs.FindLaws.{Counting}
 use Rattle.lookup.proofs.count_in.Given as goal
 
 abbrev pub invariant-loop-k : goal.invariant-loop-k

@@ -1,12 +1,10 @@
 -- `lookup::node` meets its contract. Assumes nothing.
-use Prim.Native.Nat.{◌-◌}
-use native.Mathlib.Omega.{arith}
 use mathlib.Core.Path.{sym, ◌∙◌}
-use lib.ListN.{length, get_or}
+use lib.ListN.{get_or}
 use Rattle.protocol.specs.Tree.{child_of}
 use Rattle.tree.specs.Seen.{seen}
 use Rattle.tree.proofs.FoundLaws.{found_at, found_none}
-use Rattle.lookup.proofs.ReachLaws.{Walking, walk_empty, walk_other, walk_begins, walk_lost, walk_more, walk_ends}
+use Rattle.lookup.proofs.ReachLaws.{walk_empty, walk_other, walk_begins, walk_lost, walk_more, walk_ends}
 use Rattle.lookup.proofs.node.Goals as goal
 
 pub returns-then-path-lt1 : goal.returns-then-path-lt1

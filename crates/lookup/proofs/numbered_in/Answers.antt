@@ -1,9 +1,8 @@
 -- `lookup::numbered_in` meets its contract. Assumes nothing.
-use Prim.Native.Nat.{◌-◌}
 use native.Mathlib.Omega.{arith}
 use mathlib.Core.Path.{ap, sym}
 use Rattle.tree.specs.Lookup.{found_of}
-use Rattle.lookup.proofs.FindLaws.{Seeking, seek_none, seek_begins, seek_fits, seek_found, seek_more, seek_ends}
+use Rattle.lookup.proofs.FindLaws.{seek_none, seek_begins, seek_fits, seek_found, seek_more, seek_ends}
 use Rattle.lookup.proofs.numbered_in.Goals as goal
 
 pub returns-then-n-eq0 : goal.returns-then-n-eq0

@@ -1,8 +1,7 @@
 -- `pualirqiq::clear` meets its contract. Assumes nothing.
-use Prim.Native.Nat.{◌-◌}
 use native.Mathlib.Omega.{arith}
-use lib.ListN.{length, length-set}
-use Rattle.pualirqiq.proofs.CallLaws.{Clearing, clear_begins, clear_more, clear_ends}
+use lib.ListN.{length-set}
+use Rattle.pualirqiq.proofs.CallLaws.{clear_begins, clear_more, clear_ends}
 use Rattle.pualirqiq.proofs.clear.Goals as goal
 
 pub loop-i-init : goal.loop-i-init

@@ -1,7 +1,6 @@
 use Prim.Native.Nat.{◌-◌}
-use native.Mathlib.Omega.{arith}
-use lib.ListN.{length, length-set}
-use Rattle.pualirqiq.proofs.CallLaws.{Clearing, clear_begins, clear_more, clear_ends}
+use lib.ListN.{length}
+use Rattle.pualirqiq.proofs.CallLaws.{Clearing}
 use Rattle.pualirqiq.proofs.clear.Given as goal
 
 abbrev pub invariant-loop-i : goal.invariant-loop-i

@@ -1,5 +1,5 @@
 -- `pualirqiq::hand_back` meets its contract. Assumes nothing.
-use Rattle.pualirqiq.specs.Calls.{Handed, handed}
+use Rattle.pualirqiq.specs.Calls.{handed}
 use Rattle.pualirqiq.proofs.BackLaws.{hands_none, hands_all}
 use Rattle.pualirqiq.proofs.hand_back.Goals as goal
 

@@ -3,7 +3,6 @@ use Prim.Native.Nat.{◌*◌}
 use native.Mathlib.Omega.{arith}
 use mathlib.Core.Path.{◌≡◌, sym, ap, ◌∙◌}
 use mathlib.Core.Bool.{true}
-use borrow.Author.Tests.{not-true, not-false}
 use Rattle.soundness.specs.Sound.{is_tree}
 use Rattle.pualirqiq.specs.Calls.{cells_size, is_cells_sized}
 use Rattle.pualirqiq.proofs.CallLaws.{few_properties, size_sound, cells_unsound, cells_sized, cells_other, zeroes_right, zeroes_wrong}

@@ -3,7 +3,6 @@ use Prim.Native.Nat.{◌*◌}
 use native.Mathlib.Omega.{arith}
 use mathlib.Core.Path.{◌≡◌, sym, ap, ◌∙◌}
 use mathlib.Core.Bool.{true}
-use borrow.Author.Tests.{not-true, not-false}
 use Rattle.soundness.specs.Sound.{is_tree}
 use Rattle.pualirqiq.proofs.CallLaws.{few_properties, size_sound, size_none}
 use Rattle.pualirqiq.proofs.pq_cells_size.Goals as goal

@@ -1,8 +1,7 @@
 -- `pualirqiq::pq_reading` meets its contract. Assumes nothing.
-use Prim.Native.Nat.{ℕ, ◌<◌, ◌≤◌}
+use Prim.Native.Nat.{◌<◌, ◌≤◌}
 use mathlib.Core.Path.{◌≡◌, sym, subst, ◌∙◌}
 use mathlib.Core.Bool.{true}
-use mathlib.Core.Option.{Option}
 use lib.ListN.{length}
 use Rattle.protocol.specs.Tree.{property_in, cell_in, reading}
 use Rattle.tree.specs.Seen.{seen}

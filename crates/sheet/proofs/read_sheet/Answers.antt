@@ -1,7 +1,6 @@
 -- `sheet::read_sheet` meets its contract. Assumes nothing.
 use mathlib.Core.Path.{◌≡◌, sym, ◌∙◌}
 use mathlib.Core.Bool.{true}
-use borrow.Author.Tests.{not-true, not-false}
 use Rattle.cells.specs.Lent.{is_lent}
 use Rattle.cells.proofs.CellLaws.{lent_done}
 use Rattle.sheet.proofs.SheetsLaws.{lent_cells, loads_unsound, loads_labels, loads_refused, loads_done}

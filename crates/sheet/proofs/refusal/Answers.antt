@@ -1,7 +1,6 @@
 -- `sheet::refusal` meets its contract. Assumes nothing.
 use mathlib.Core.Path.{◌≡◌, refl, sym, ◌∙◌}
 use mathlib.Core.Bool.{true}
-use borrow.Author.Tests.{not-true, not-false}
 use Rattle.cells.specs.Lent.{is_lent}
 use Rattle.cells.proofs.CellLaws.{lent_done}
 use Rattle.sheet.proofs.SheetsLaws.{write_unsound, write_by}

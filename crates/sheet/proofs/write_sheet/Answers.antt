@@ -5,7 +5,6 @@ use mathlib.Core.Path.{◌≡◌, sym, ◌∙◌}
 use mathlib.Core.List.{[]}
 use lib.ListN.{length}
 use Rattle.protocol.specs.Numbers.{done}
-use Rattle.protocol.specs.Frame.{Received}
 use Rattle.protocol.specs.Buffer.{farthest, Laid}
 use Rattle.protocol.proofs.LayLaws.{laid_as}
 use Rattle.protocol.proofs.FillLaws.{fills_refused, fills_short, fits_counted, fills_counted}

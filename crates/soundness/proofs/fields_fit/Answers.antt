@@ -1,7 +1,7 @@
 -- `soundness::fields_fit` meets its contract. Assumes nothing.
 use native.Mathlib.Omega.{arith}
 use mathlib.Core.Path.{sym, ◌∙◌}
-use borrow.Author.Tests.{not-true, not-false, lt-ltb, le-ltb}
+use borrow.Author.Tests.{lt-ltb, le-ltb}
 use Rattle.soundness.specs.Check.{fields_fit}
 use Rattle.soundness.proofs.fields_fit.Goals as goal
 

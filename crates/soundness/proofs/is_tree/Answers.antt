@@ -3,7 +3,6 @@ use Prim.Native.Nat.{◌+◌, ◌*◌}
 use native.Mathlib.Omega.{arith}
 use mathlib.Core.Path.{◌≡◌, sym, ap, ap₂, ◌∙◌}
 use mathlib.Core.Bool.{Bool, true, ◌&&◌}
-use borrow.Author.Tests.{not-true, not-false}
 use lib.ListN.{drop}
 use lib.Dec.{leb}
 use Rattle.protocol.specs.Numbers.{max_nodes}

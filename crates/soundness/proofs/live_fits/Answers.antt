@@ -1,6 +1,5 @@
 -- `soundness::live_fits` meets its contract. Assumes nothing.
 use mathlib.Core.Path.{refl, sym, ◌∙◌}
-use borrow.Author.Tests.{not-true, not-false}
 use Rattle.tree.specs.Lookup.{numbers_of}
 use Rattle.soundness.proofs.StepLaws.{live_by}
 use Rattle.soundness.proofs.live_fits.Goals as goal

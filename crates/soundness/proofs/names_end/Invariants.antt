@@ -1,10 +1,8 @@
 use Prim.Native.Nat.{◌-◌}
-use native.Mathlib.Omega.{arith}
-use mathlib.Core.Path.{sym, ◌∙◌}
 use Rattle.tree.specs.Form.{node_size}
 use Rattle.tree.specs.Seen.{node_count}
 use Rattle.soundness.specs.Check.{node_end}
-use Rattle.soundness.proofs.StepLaws.{Going, go_begins, go_on, go_fails, go_ends, node_within}
+use Rattle.soundness.proofs.StepLaws.{Going}
 use Rattle.soundness.proofs.names_end.Given as goal
 
 abbrev pub invariant-loop-k : goal.invariant-loop-k

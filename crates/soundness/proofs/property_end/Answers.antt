@@ -2,7 +2,6 @@
 use Prim.Native.Nat.{◌+◌, ◌*◌}
 use native.Mathlib.Omega.{arith}
 use mathlib.Core.Path.{◌≡◌, refl, sym, ap, ◌∙◌}
-use borrow.Author.Tests.{not-true, not-false}
 use Rattle.protocol.specs.Numbers.{max_texts, name_room}
 use Rattle.tree.specs.Form.{property_size, properties_start}
 use Rattle.tree.specs.Seen.{half_at, node_count}

@@ -1,6 +1,5 @@
 -- `table::all_fit` meets its contract. Assumes nothing.
-use borrow.Author.Tests.{not-true, not-false}
-use Rattle.protocol.specs.Request.{Request, request_of}
+use Rattle.protocol.specs.Request.{request_of}
 use Rattle.table.proofs.TableLaws.{fits_not_path, fits_not_index, fits-value}
 use Rattle.table.proofs.all_fit.Goals as goal
 

@@ -1,8 +1,5 @@
 -- `word::before_zero` meets its contract. Assumes nothing.
-use Prim.Native.Nat.{◌-◌}
-use native.Mathlib.Omega.{arith}
-use lib.ListN.{length}
-use Rattle.word.proofs.ZeroLaws.{Seeking, seek_begins, seek_more, seek_found, seek_ends}
+use Rattle.word.proofs.ZeroLaws.{seek_begins, seek_more, seek_found, seek_ends}
 use Rattle.word.proofs.before_zero.Goals as goal
 use Rattle.word.proofs.before_zero.Goals.{then-bs-i-eq0, else-bs-i-eq0}
 
@@ -13,8 +10,8 @@ pub loop-i-preserved : goal.loop-i-preserved
 loop-i-preserved c =
     let bs = c.args.bs.now in
     elim c.if-bs-i-eq0.branch [
-      then-bs-i-eq0 w ↦ seek_found bs c.loop-i.invariant c.loop-i-test.true w.if-bs-i-eq0.true w.end-is
-    | else-bs-i-eq0 w ↦ seek_more bs c.loop-i.invariant c.loop-i-test.true w.if-bs-i-eq0.false w.end-is
+      | then-bs-i-eq0 w ↦ seek_found bs c.loop-i.invariant c.loop-i-test.true w.if-bs-i-eq0.true w.end-is
+      | else-bs-i-eq0 w ↦ seek_more bs c.loop-i.invariant c.loop-i-test.true w.if-bs-i-eq0.false w.end-is
     ]
 
 pub returns : goal.returns

@@ -1,6 +1,5 @@
 -- `answer::answer::answer_asked` meets its contract. Assumes nothing.
 use mathlib.Core.Path.{◌≡◌}
-use borrow.Author.Tests.{not-true, not-false}
 use Rattle.tree.specs.Seen.{seen}
 use Rattle.cells.specs.Cells.{cells_form, cells_in}
 use Rattle.cells.proofs.CellLaws.{lent_form}

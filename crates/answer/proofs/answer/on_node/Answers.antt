@@ -41,8 +41,7 @@ pub on_property-requires : goal.on_property-requires
 on_property-requires c =
     let found : property_of (seen c.args.tree.now) c.args.node c.args.asked.index ≡ some c.in-At.place =
     found_at (property_of (seen c.args.tree.now) c.args.node c.args.asked.index)
-    (sym c.in-At.is ∙ c.property.ensures) in
-    (
+    (sym c.in-At.is ∙ c.property.ensures) in (
       c.requires.0,
       (
         c.requires.1.0,

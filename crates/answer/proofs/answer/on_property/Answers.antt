@@ -31,8 +31,7 @@ returns-then-asked-eq-OP_READ c =
 pub on_write-requires : goal.on_write-requires
 on_write-requires c =
     let above : op_read < c.args.asked.op =
-    omega (arith, c.if-asked-eq-OP_RECORD.false, c.if-asked-eq-OP_READ.false, c.requires.1.1.1.0) in
-    (
+    omega (arith, c.if-asked-eq-OP_RECORD.false, c.if-asked-eq-OP_READ.false, c.requires.1.1.1.0) in (
       c.requires.0,
       (
         c.requires.1.0,

@@ -1,7 +1,7 @@
 -- `answer::answer::on_read` meets its contract. Assumes nothing.
 use native.Mathlib.Omega.{arith}
 use mathlib.Core.Path.{sym, ◌∙◌}
-use Rattle.protocol.specs.Tree.{Property, Cell, property_in, cell_in, reading}
+use Rattle.protocol.specs.Tree.{property_in, cell_in, reading}
 use Rattle.protocol.proofs.AnswerLaws.{read_size}
 use Rattle.protocol.proofs.RuleLaws.{reading_some, reading_none}
 use Rattle.tree.specs.Seen.{seen}

@@ -4,7 +4,7 @@ use mathlib.Core.Path.{◌≡◌, sym, ap, ◌∙◌}
 use lib.ListN.{length}
 use Rattle.protocol.specs.Frame.{received}
 use Rattle.protocol.specs.Request.{read_request}
-use Rattle.answer.specs.Serve.{Call, data_call, Open}
+use Rattle.answer.specs.Serve.{data_call, Open}
 use Rattle.answer.proofs.ReadLaws.{sized-done, sized-refused, asked_is, asks}
 use Rattle.answer.proofs.ServeLaws.{answer_to, opened, serve_unlent, serve-refused, serve_answered, answered_as, as_data}
 use Rattle.answer.proofs.serve.serve_data.Goals as goal
@@ -23,8 +23,7 @@ returns-then-sized-ne-DONE c =
 pub answer_asked-requires : goal.answer_asked-requires
 answer_asked-requires c =
     let unrefused : Open (data_call (length c.args.out.now) c.args.request.now c.args.host c.args.tree.now c.args.cells.now) =
-    opened (data_call (length c.args.out.now) c.args.request.now c.args.host c.args.tree.now c.args.cells.now) c.lent_number-lent.ensures c.if-lent-ne-DONE.false in
-    (
+    opened (data_call (length c.args.out.now) c.args.request.now c.args.host c.args.tree.now c.args.cells.now) c.lent_number-lent.ensures c.if-lent-ne-DONE.false in (
       omega (arith, unrefused.roomy),
       (
         unrefused.lent,

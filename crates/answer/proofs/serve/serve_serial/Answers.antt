@@ -4,7 +4,7 @@ use native.Mathlib.Omega.{arith}
 use lib.ListN.{length}
 use Rattle.protocol.specs.Request.{read_serial}
 use Rattle.protocol.proofs.ListLaws.{part_size}
-use Rattle.answer.specs.Serve.{Call, serial_call, Open}
+use Rattle.answer.specs.Serve.{serial_call, Open}
 use Rattle.answer.proofs.ReadLaws.{Read, early_frame, row_of_string, row_of_data}
 use Rattle.answer.proofs.ServeLaws.{answer_to, opened, serve_unlent, serve-refused, serve_answered, replies, answered_as, as_serial, reply_within}
 use Rattle.answer.proofs.serve.serve_serial.Goals as goal

@@ -4,7 +4,7 @@ use mathlib.Core.Path.{ap, ◌∙◌}
 use lib.ListN.{length, length-drop}
 use Rattle.protocol.specs.Request.{read_udp}
 use Rattle.protocol.proofs.BufferLaws.{part_lent}
-use Rattle.answer.specs.Serve.{Call, udp_call, Open}
+use Rattle.answer.specs.Serve.{udp_call, Open}
 use Rattle.answer.proofs.ReadLaws.{Read, early_datagram, row_of_string, row_of_data}
 use Rattle.answer.proofs.ServeLaws.{answer_to, opened, serve_unlent, serve-refused, serve_answered, replies, answered_as, as_udp, front_short, reply_short}
 use Rattle.answer.proofs.serve.serve_udp.Goals as goal

@@ -3,7 +3,6 @@ use Prim.Native.Nat.{◌/◌, ◌^◌}
 use native.Mathlib.Omega.{arith}
 use mathlib.Core.Path.{◌≡◌, sym, ◌∙◌}
 use mathlib.Core.Bool.{true}
-use borrow.Author.Tests.{not-true, not-false}
 use lib.Bits.{bit_and, mask_lt}
 use Rattle.buslink.specs.Identifier.{is_station, is_indicator_type}
 use Rattle.protocol.proofs.PackLaws.{packing}

@@ -3,7 +3,6 @@ use Prim.Native.Nat.{◌<◌}
 use native.Mathlib.Omega.{arith}
 use mathlib.Core.Path.{◌≡◌, sym, subst, ◌∙◌}
 use mathlib.Core.Bool.{true}
-use borrow.Author.Tests.{not-true, not-false}
 use Rattle.buslink.specs.Send.{scaled, fits}
 use Rattle.buslink.specs.Steps.{sized}
 use Rattle.buslink.proofs.SendLaws.{below_some, sent_beyond, sent_value, fits_small, word-sized}

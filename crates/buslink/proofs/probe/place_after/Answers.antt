@@ -1,8 +1,7 @@
 -- `buslink::probe::place_after` meets its contract. Assumes nothing.
-use Prim.Native.Nat.{◌-◌}
 use native.Mathlib.Omega.{arith}
 use Rattle.tree.specs.Seen.{seen}
-use Rattle.buslink.proofs.SendLaws.{Skipping, skip_begins, skip_more, skip_ends, probe_past}
+use Rattle.buslink.proofs.SendLaws.{skip_begins, skip_more, skip_ends, probe_past}
 use Rattle.buslink.proofs.probe.place_after.Goals as goal
 
 pub loop-passed-init : goal.loop-passed-init

@@ -1,7 +1,6 @@
 use Prim.Native.Nat.{◌-◌}
-use native.Mathlib.Omega.{arith}
 use Rattle.tree.specs.Seen.{seen}
-use Rattle.buslink.proofs.SendLaws.{Skipping, skip_begins, skip_more, skip_ends, probe_past}
+use Rattle.buslink.proofs.SendLaws.{Skipping}
 use Rattle.buslink.proofs.probe.place_after.Given as goal
 
 abbrev pub invariant-loop-passed : goal.invariant-loop-passed

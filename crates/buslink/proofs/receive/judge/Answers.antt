@@ -1,5 +1,4 @@
 -- `buslink::receive::judge` meets its contract. Assumes nothing.
-use borrow.Author.Tests.{not-true, not-false}
 use Rattle.buslink.proofs.ReceiveLaws.{judge-unsound, judge_other, judge-sized, judge-done, its_type, not_its_type}
 use Rattle.buslink.proofs.receive.judge.Goals as goal
 

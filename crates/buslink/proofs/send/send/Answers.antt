@@ -1,7 +1,6 @@
 -- `buslink::send::send` meets its contract. Assumes nothing.
 use mathlib.Core.Path.{◌≡◌, refl, sym, ap, ap₂, ◌∙◌}
 use mathlib.Core.Bool.{true, ◌&&◌}
-use borrow.Author.Tests.{not-true, not-false}
 use Rattle.cells.specs.Lent.{is_lent}
 use Rattle.cells.proofs.CellLaws.{lent_done}
 use Rattle.buslink.specs.Identifier.{is_station, is_indicator_type}

@@ -1,9 +1,8 @@
 -- `cells::cell::is_readable` meets its contract. Assumes nothing.
 use mathlib.Core.Path.{◌≡◌, refl, sym, ap, ◌∙◌}
-use borrow.Author.Tests.{not-true, not-false}
 use Rattle.protocol.specs.Numbers.{bit_read, bit_live}
 use Rattle.protocol.specs.Bytes.{bit}
-use Rattle.protocol.specs.Tree.{Property, Cell, can_read, is_live, property_in, cell_in}
+use Rattle.protocol.specs.Tree.{can_read, is_live, property_in, cell_in}
 use Rattle.tree.specs.Seen.{seen}
 use Rattle.cells.specs.Cells.{cells_in}
 use Rattle.cells.proofs.ReadingLaws.{readable_by}

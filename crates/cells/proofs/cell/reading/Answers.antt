@@ -1,6 +1,5 @@
 -- `cells::cell::reading` meets its contract. Assumes nothing.
-use borrow.Author.Tests.{not-true, not-false}
-use Rattle.protocol.specs.Tree.{Property, Cell, property_in, cell_in}
+use Rattle.protocol.specs.Tree.{property_in, cell_in}
 use Rattle.tree.specs.Seen.{seen}
 use Rattle.cells.specs.Cells.{cells_in}
 use Rattle.cells.proofs.ReadingLaws.{reads_none, reads_word}

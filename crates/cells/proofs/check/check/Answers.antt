@@ -1,7 +1,7 @@
 -- `cells::check::check` meets its contract. Assumes nothing.
 use mathlib.Core.Path.{◌≡◌, refl, sym, ◌∙◌}
 use mathlib.Core.Bool.{true}
-use borrow.Author.Tests.{not-true, not-false, eq-eqb, ne_eqb}
+use borrow.Author.Tests.{eq-eqb, ne_eqb}
 use lib.ListN.{length}
 use Rattle.tree.specs.Seen.{seen}
 use Rattle.soundness.specs.Sound.{is_tree}

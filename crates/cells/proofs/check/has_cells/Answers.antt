@@ -1,7 +1,6 @@
 -- `cells::check::has_cells` meets its contract. Assumes nothing.
-use Prim.Native.Nat.{◌-◌}
 use native.Mathlib.Omega.{arith}
-use Rattle.cells.proofs.CellLaws.{Checking, check_begins, check_more, check_ends, not_whole, not_marked}
+use Rattle.cells.proofs.CellLaws.{check_begins, check_more, check_ends, not_whole, not_marked}
 use Rattle.cells.proofs.check.has_cells.Goals as goal
 
 pub returns-then-cells-ne0 : goal.returns-then-cells-ne0

@@ -1,6 +1,5 @@
 use Prim.Native.Nat.{◌-◌}
-use native.Mathlib.Omega.{arith}
-use Rattle.cells.proofs.CellLaws.{Checking, check_begins, check_more, check_ends, not_whole, not_marked}
+use Rattle.cells.proofs.CellLaws.{Checking}
 use Rattle.cells.proofs.check.has_cells.Given as goal
 
 abbrev pub invariant-loop-k : goal.invariant-loop-k

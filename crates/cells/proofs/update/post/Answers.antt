@@ -1,13 +1,12 @@
 -- `cells::update::post` meets its contract. Assumes nothing.
 use mathlib.Core.Path.{◌≡◌, sym, ap, ◌∙◌}
 use mathlib.Core.Bool.{true}
-use borrow.Author.Tests.{not-true, not-false}
 use Rattle.protocol.specs.Numbers.{bit_live}
 use Rattle.protocol.specs.Bytes.{bit}
 use Rattle.protocol.specs.Tree.{is_live, property_in}
 use Rattle.tree.specs.Seen.{seen}
 use Rattle.cells.specs.Lent.{is_lent}
-use Rattle.cells.proofs.CellLaws.{posts_unsound, posts_other, posts_live, lent_done, worded, word_first, no_word, posted_size}
+use Rattle.cells.proofs.CellLaws.{posts_unsound, posts_other, posts_live, lent_done, worded, word_first, no_word}
 use Rattle.cells.proofs.update.post.Goals as goal
 use Rattle.cells.proofs.update.post.Goals.{then-ready, else-ready}
 
@@ -33,8 +32,8 @@ returns c =
     sym (c.is_live.ensures ∙ ap (bit bit_live) c.read_fields.ensures.attribute) in
     let joined : c.if-ready.cells ≡ worded c.args.cells.now c.args.place c.args.n c.args.ready =
     elim c.if-ready.branch [
-      then-ready w ↦ word_first c.args.cells.now c.args.place c.args.n c.args.ready w.if-ready.true (w.cells-is ∙ w.store_word.ensures)
-    | else-ready w ↦ no_word c.args.cells.now c.args.place c.args.n c.args.ready w.if-ready.false w.cells-is
+      | then-ready w ↦ word_first c.args.cells.now c.args.place c.args.n c.args.ready w.if-ready.true (w.cells-is ∙ w.store_word.ensures)
+      | else-ready w ↦ no_word c.args.cells.now c.args.place c.args.n c.args.ready w.if-ready.false w.cells-is
     ] in
     posts_live c.args.tree.now c.args.cells.now c.args.place c.args.n c.args.ready
     lent (live ∙ c.if-not-is_live.false) joined c.store_mark.ensures

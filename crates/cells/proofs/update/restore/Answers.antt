@@ -1,6 +1,5 @@
 -- `cells::update::restore` meets its contract. Assumes nothing.
-use Prim.Native.Nat.{◌-◌, ◌<◌, ◌≤◌}
-use native.Mathlib.Omega.{arith}
+use Prim.Native.Nat.{◌<◌, ◌≤◌}
 use mathlib.Core.Path.{◌≡◌, sym, ap, subst, ◌∙◌}
 use mathlib.Core.Bool.{true}
 use Rattle.protocol.specs.Numbers.{bit_live}
@@ -9,7 +8,7 @@ use Rattle.protocol.specs.Tree.{is_live, property_in}
 use Rattle.tree.specs.Seen.{seen}
 use Rattle.cells.specs.Lent.{is_lent}
 use Rattle.cells.proofs.CellLaws.{lent_done}
-use Rattle.cells.proofs.RestoreLaws.{Restoring, restore_begins, restore_live, restore_other, restore_size, restore_ends, restore_unsound}
+use Rattle.cells.proofs.RestoreLaws.{restore_begins, restore_live, restore_other, restore_ends, restore_unsound}
 use Rattle.cells.proofs.update.restore.Goals as goal
 use Rattle.cells.proofs.update.restore.Goals.{then-is_live, else-is_live}
 
@@ -30,8 +29,8 @@ loop-k-preserved c =
     let old = c.args.cells.now in
     let within = subst (λ n. c.loop-k.k < n) c.property_count-count.ensures c.loop-k-test.true in
     elim c.if-is_live.branch [
-      then-is_live w ↦ restore_live tree old c.loop-k.invariant within (live ∙ w.if-is_live.true) (w.cells-is ∙ w.store_mark.ensures)
-    | else-is_live w ↦ restore_other tree old c.loop-k.invariant within (live ∙ w.if-is_live.false) w.cells-is
+      | then-is_live w ↦ restore_live tree old c.loop-k.invariant within (live ∙ w.if-is_live.true) (w.cells-is ∙ w.store_mark.ensures)
+      | else-is_live w ↦ restore_other tree old c.loop-k.invariant within (live ∙ w.if-is_live.false) w.cells-is
     ]
 
 pub returns : goal.returns

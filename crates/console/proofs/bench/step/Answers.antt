@@ -3,7 +3,7 @@ use Prim.Native.Nat.{◌≤◌}
 use lib.ListN.{length}
 use Rattle.protocol.specs.Numbers.{room_data}
 use Rattle.protocol.proofs.ListLaws.{part_size}
-use Rattle.stream.specs.Feed.{FedBy, fed}
+use Rattle.stream.specs.Feed.{fed}
 use Rattle.console.specs.Bench.{bench_address}
 use Rattle.console.proofs.StepLaws.{front_within, steps_none, steps_open, no_frame_lem, good_frame, bad_frame}
 use Rattle.console.proofs.bench.step.Goals as goal

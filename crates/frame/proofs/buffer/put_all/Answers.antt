@@ -1,6 +1,6 @@
 -- `frame::buffer::put_all` meets its contract. Assumes nothing.
-use Rattle.std.proofs.Common.{◌-◌, length, arith}
-use Rattle.protocol.proofs.BufferLaws.{Filling, fill_begins, fill_more, fill_full, fill_ends}
+use Rattle.std.proofs.Common.{arith}
+use Rattle.protocol.proofs.BufferLaws.{fill_begins, fill_more, fill_full, fill_ends}
 use Rattle.frame.proofs.buffer.put_all.Goals as goal
 
 pub loop-i-init : goal.loop-i-init

@@ -1,5 +1,5 @@
-use Rattle.std.proofs.Common.{◌-◌, length, arith}
-use Rattle.protocol.proofs.BufferLaws.{Filling, fill_begins, fill_more, fill_full, fill_ends}
+use Rattle.std.proofs.Common.{◌-◌, length}
+use Rattle.protocol.proofs.BufferLaws.{Filling}
 use Rattle.frame.proofs.buffer.put_all.Given as goal
 
 abbrev pub invariant-loop-i : goal.invariant-loop-i

@@ -1,5 +1,5 @@
 -- `frame::read::copy_content` meets its contract. Assumes nothing.
-use Rattle.std.proofs.Common.{◌≡◌, ℕ, ◌+◌, ◌-◌, length, get_or, arith}
+use Rattle.std.proofs.Common.{◌≡◌, ℕ, ◌+◌, length, get_or, arith}
 use Rattle.protocol.specs.Numbers.{DLE}
 use Rattle.frame.proofs.CheckLaws.{Copying, copy_begins, copy_lone, copy_doubled, copy_same, copy_all, copy_short}
 use Rattle.frame.proofs.read.copy_content.Goals as goal

@@ -1,6 +1,5 @@
-use Rattle.std.proofs.Common.{◌≡◌, ℕ, ◌+◌, ◌-◌, length, get_or, arith}
-use Rattle.protocol.specs.Numbers.{DLE}
-use Rattle.frame.proofs.CheckLaws.{Copying, copy_begins, copy_lone, copy_doubled, copy_same, copy_all, copy_short}
+use Rattle.std.proofs.Common.{◌-◌}
+use Rattle.frame.proofs.CheckLaws.{Copying}
 use Rattle.frame.proofs.read.copy_content.Given as goal
 
 abbrev pub invariant-loop-k : goal.invariant-loop-k

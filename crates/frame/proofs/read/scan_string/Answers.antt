@@ -1,5 +1,5 @@
 -- `frame::read::scan_string` meets its contract. Assumes nothing.
-use Rattle.std.proofs.Common.{◌+◌, ◌-◌, ◌^◌, ◌<◌, length, sym, ◌∙◌, arith}
+use Rattle.std.proofs.Common.{◌+◌, ◌^◌, ◌<◌, sym, ◌∙◌, arith}
 use Rattle.frame.proofs.ReadLaws.{Scanning, begins, lone_on, doubled-on, whole, broken, unended}
 use Rattle.frame.proofs.read.scan_string.Goals as goal
 

@@ -1,5 +1,5 @@
-use Rattle.std.proofs.Common.{◌+◌, ◌-◌, ◌^◌, ◌<◌, length, sym, ◌∙◌, arith}
-use Rattle.frame.proofs.ReadLaws.{Scanning, begins, lone_on, doubled-on, whole, broken, unended}
+use Rattle.std.proofs.Common.{◌-◌, length}
+use Rattle.frame.proofs.ReadLaws.{Scanning}
 use Rattle.frame.proofs.read.scan_string.Given as goal
 
 abbrev pub invariant-loop-i : goal.invariant-loop-i

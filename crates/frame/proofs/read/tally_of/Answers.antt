@@ -1,6 +1,6 @@
 -- `frame::read::tally_of` meets its contract. Assumes nothing.
-use Rattle.std.proofs.Common.{◌-◌, length, arith, length-take}
-use Rattle.frame.proofs.ContentLaws.{Tallying, tally_begins, tally_more, tally_ends}
+use Rattle.std.proofs.Common.{arith, length-take}
+use Rattle.frame.proofs.ContentLaws.{tally_begins, tally_more, tally_ends}
 use Rattle.frame.proofs.read.tally_of.Goals as goal
 
 pub loop-i-init : goal.loop-i-init

@@ -1,5 +1,5 @@
-use Rattle.std.proofs.Common.{◌-◌, length, arith, length-take}
-use Rattle.frame.proofs.ContentLaws.{Tallying, tally_begins, tally_more, tally_ends}
+use Rattle.std.proofs.Common.{◌-◌, length}
+use Rattle.frame.proofs.ContentLaws.{Tallying}
 use Rattle.frame.proofs.read.tally_of.Given as goal
 
 abbrev pub invariant-loop-i : goal.invariant-loop-i

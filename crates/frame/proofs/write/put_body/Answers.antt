@@ -1,6 +1,6 @@
 -- `frame::write::put_body` meets its contract. Assumes nothing.
-use Rattle.std.proofs.Common.{◌+◌, ◌-◌, ◌≤◌, length, arith}
-use Rattle.frame.proofs.BodyLaws.{Writing, begins, more, length_kept, room_left, ends}
+use Rattle.std.proofs.Common.{◌+◌, ◌≤◌, length, arith}
+use Rattle.frame.proofs.BodyLaws.{begins, more, room_left, ends}
 use Rattle.frame.proofs.write.put_body.Goals as goal
 
 pub loop-i-init : goal.loop-i-init

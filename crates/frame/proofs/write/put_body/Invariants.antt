@@ -1,5 +1,5 @@
-use Rattle.std.proofs.Common.{◌+◌, ◌-◌, ◌≤◌, length, arith}
-use Rattle.frame.proofs.BodyLaws.{Writing, begins, more, length_kept, room_left, ends}
+use Rattle.std.proofs.Common.{◌-◌, length}
+use Rattle.frame.proofs.BodyLaws.{Writing}
 use Rattle.frame.proofs.write.put_body.Given as goal
 
 abbrev pub invariant-loop-i : goal.invariant-loop-i

@@ -1,5 +1,5 @@
 -- `frame::write::put_frame` meets its contract. Assumes nothing.
-use Rattle.std.proofs.Common.{ℕ, ◌+◌, ◌-◌, ◌*◌, ◌≤◌, List, [], ◌∷◌, ◌++◌, length, ap, subst, arith, length-append}
+use Rattle.std.proofs.Common.{◌+◌, ◌-◌, ◌*◌, ◌≤◌, [], ◌∷◌, ◌++◌, length, ap, subst, arith, length-append}
 use Rattle.protocol.specs.Numbers.{DLE, STX}
 use Rattle.protocol.specs.Frame.{doubled}
 use Rattle.protocol.specs.Buffer.{Put}

@@ -14,11 +14,10 @@ returns-then-number-ne-DONE c =
     (emits_unsized c.args.payload.now _ _ c.size_number-number.ensures c.if-number-ne-DONE.true)
 
 pub put_frame-len-requires : goal.put_frame-len-requires
-put_frame-len-requires c =
-    (
-      (size_only c.args.payload.now (sym c.size_number-number.ensures ∙ c.if-number-ne-DONE.false)).most,
-      c.if-out-lt-ROOM_SERIAL.false,
-    )
+put_frame-len-requires c = (
+  (size_only c.args.payload.now (sym c.size_number-number.ensures ∙ c.if-number-ne-DONE.false)).most,
+  c.if-out-lt-ROOM_SERIAL.false,
+)
 
 pub returns : goal.returns
 returns c =

@@ -1,11 +1,11 @@
 -- `listing::entry::put_properties` meets its contract. Assumes nothing.
-use Prim.Native.Nat.{◌-◌, ◌<◌}
+use Prim.Native.Nat.{◌<◌}
 use native.Mathlib.Omega.{arith}
 use lib.ListN.{length}
 use Rattle.protocol.specs.Buffer.{farthest}
 use Rattle.tree.specs.Seen.{seen}
 use Rattle.tree.proofs.FieldLaws.{property_count_lem}
-use Rattle.listing.proofs.EntryLaws.{Owning, owning_begins, row_within, owning_past, owning_here, owning_ends}
+use Rattle.listing.proofs.EntryLaws.{owning_begins, row_within, owning_past, owning_here, owning_ends}
 use Rattle.listing.proofs.entry.put_properties.Goals as goal
 
 pub loop-p-init : goal.loop-p-init

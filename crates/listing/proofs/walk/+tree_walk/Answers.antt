@@ -1,6 +1,6 @@
 -- `listing::walk::walk_children` and `listing::walk::walk_node` meet their contracts: each calls the other on fewer nodes.
 -- Assumes nothing.
-use Rattle.std.proofs.Common.{◌∙◌, ◌<◌, ◌≤◌, ℕ, length, arith}
+use Rattle.std.proofs.Common.{◌∙◌, ◌<◌, ◌≤◌, length, arith}
 use Rattle.std.proofs.lemmas.List.{length-map}
 use Rattle.protocol.specs.Numbers.{max_nodes}
 use Rattle.protocol.specs.Buffer.{farthest}
@@ -8,7 +8,7 @@ use Rattle.protocol.proofs.ListLaws.{part_size}
 use Rattle.tree.specs.Seen.{seen}
 use Rattle.listing.specs.Steps.{path_in}
 use Rattle.listing.proofs.PathLaws.{path_within}
-use Rattle.listing.proofs.WalkLaws.{node_laid, row_within, row_parent, descend_past, descend_here, descend-ends, stands_short, stands_few, stands_next, child_room, stands_child}
+use Rattle.listing.proofs.WalkLaws.{node_laid, row_within, row_parent, descend_past, descend_here, descend-ends, stands_short, stands_few, child_room, stands_child}
 use Rattle.listing.proofs.walk.+tree_walk.Goals as goal
 
 pub walk_children-overflow_mul-place : goal.walk_children-overflow_mul-place
@@ -20,25 +20,25 @@ walk_children-overflow_add-place t c = omega (arith, stands_few c.requires, c.re
 pub walk_children-bounds-tree-place : goal.walk_children-bounds-tree-place
 walk_children-bounds-tree-place t c =
     let listed : c.loop-j.j < length (seen c.args.tree.now).nodes =
-        omega (arith, c.loop-j-test.true, c.node_count-count.ensures) in
+    omega (arith, c.loop-j-test.true, c.node_count-count.ensures) in
     row_within c.args.tree.now (path_in c.args.path) c.loop-j.invariant c.requires.is_tree_lem listed
 
 pub walk_children-overflow_add-place-then-wide-k : goal.walk_children-overflow_add-place-then-wide-k
 walk_children-overflow_add-place-then-wide-k t c =
     let listed : c.loop-j.j < length (seen c.args.tree.now).nodes =
-        omega (arith, c.loop-j-test.true, c.node_count-count.ensures) in
+    omega (arith, c.loop-j-test.true, c.node_count-count.ensures) in
     omega (arith, row_within c.args.tree.now (path_in c.args.path) c.loop-j.invariant c.requires.is_tree_lem listed)
 
 pub walk_children-loop-j-preserved-then-wide-k : goal.walk_children-loop-j-preserved-then-wide-k
 walk_children-loop-j-preserved-then-wide-k t c =
     let listed : c.loop-j.j < length (seen c.args.tree.now).nodes =
-        omega (arith, c.loop-j-test.true, c.node_count-count.ensures) in
+    omega (arith, c.loop-j-test.true, c.node_count-count.ensures) in
     descend_past c.args.tree.now (path_in c.args.path) c.loop-j.invariant listed c.wide.ensures c.if-wide-k.true
 
 pub walk_children-child-requires : goal.walk_children-child-requires
 walk_children-child-requires t c =
     let listed : c.loop-j.j < length (seen c.args.tree.now).nodes =
-        omega (arith, c.loop-j-test.true, c.node_count-count.ensures) in
+    omega (arith, c.loop-j-test.true, c.node_count-count.ensures) in
     let near : c.loop-j.j < max_nodes = omega (arith, listed, stands_few c.requires) in
     let going = c.loop-j.invariant in
     let parent = row_parent c.args.tree.now (path_in c.args.path) going listed c.wide.ensures in (
@@ -49,7 +49,7 @@ walk_children-child-requires t c =
 pub walk_children-walk_node-next-requires : goal.walk_children-walk_node-next-requires
 walk_children-walk_node-next-requires t c =
     let listed : c.loop-j.j < length (seen c.args.tree.now).nodes =
-        omega (arith, c.loop-j-test.true, c.node_count-count.ensures) in
+    omega (arith, c.loop-j-test.true, c.node_count-count.ensures) in
     let going = c.loop-j.invariant in
     let parent = row_parent c.args.tree.now (path_in c.args.path) going listed c.wide.ensures in (
       omega (arith, c.decreases, going.behind, listed),
@@ -59,14 +59,14 @@ walk_children-walk_node-next-requires t c =
 pub walk_children-overflow_add-place-in-loop-j : goal.walk_children-overflow_add-place-in-loop-j
 walk_children-overflow_add-place-in-loop-j t c =
     let listed : c.loop-j.j < length (seen c.args.tree.now).nodes =
-        omega (arith, c.loop-j-test.true, c.node_count-count.ensures) in
+    omega (arith, c.loop-j-test.true, c.node_count-count.ensures) in
     omega (arith, row_within c.args.tree.now (path_in c.args.path) c.loop-j.invariant c.requires.is_tree_lem listed)
 
 pub walk_children-loop-j-preserved : goal.walk_children-loop-j-preserved
 walk_children-loop-j-preserved t c =
     let room : length c.args.out.now < farthest = omega arith in
     let listed : c.loop-j.j < length (seen c.args.tree.now).nodes =
-        omega (arith, c.loop-j-test.true, c.node_count-count.ensures) in
+    omega (arith, c.loop-j-test.true, c.node_count-count.ensures) in
     descend_here c.args.tree.now (path_in c.args.path) c.loop-j.invariant room listed
     c.wide.ensures c.if-wide-k.false c.child.ensures.is c.walk_node-next.ensures
 
@@ -77,13 +77,13 @@ walk_children-returns t c =
 pub walk_node-slice_bounds-numbers-end : goal.walk_node-slice_bounds-numbers-end
 walk_node-slice_bounds-numbers-end t c =
     let path-fits : c.args.path.len ≤ length c.args.path.numbers =
-        path_within c.args.path (length-map _ (λ b. b) ∙ c.well_formed.1.1.0.1.1.0.1.0.1) (stands_short c.requires) in
+    path_within c.args.path (length-map _ (λ b. b) ∙ c.well_formed.1.1.0.1.1.0.1.0.1) (stands_short c.requires) in
     path-fits
 
 pub walk_node-slice_bounds-put_own-end : goal.walk_node-slice_bounds-put_own-end
 walk_node-slice_bounds-put_own-end t c =
     let path-fits : c.args.path.len ≤ length c.args.path.numbers =
-        path_within c.args.path (length-map _ (λ b. b) ∙ c.well_formed.1.1.0.1.1.0.1.0.1) (stands_short c.requires) in
+    path_within c.args.path (length-map _ (λ b. b) ∙ c.well_formed.1.1.0.1.1.0.1.0.1) (stands_short c.requires) in
     part_size c.args.path.len c.args.path.numbers path-fits
 
 pub walk_node-returns : goal.walk_node-returns

@@ -1,7 +1,6 @@
 -- `reply::write::outcome_by` meets its contract. Assumes nothing.
 use mathlib.Core.Path.{◌≡◌, refl, sym, ◌∙◌}
 use mathlib.Core.Bool.{Bool, true, cond}
-use borrow.Author.Tests.{not-true, not-false}
 use Rattle.protocol.specs.Tree.{can_read, can_write}
 use Rattle.protocol.specs.Step.{on_step}
 use Rattle.protocol.specs.Answer.{saved, out_of_range, off_step, outcome}

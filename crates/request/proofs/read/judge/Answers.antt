@@ -1,7 +1,6 @@
 -- `request::read::judge` meets its contract. Assumes nothing.
 use mathlib.Core.Path.{sym, ◌∙◌}
-use borrow.Author.Tests.{not-true, not-false}
-use Rattle.protocol.specs.Request.{Request, request_of}
+use Rattle.protocol.specs.Request.{request_of}
 use Rattle.protocol.proofs.RequestLaws.{path_most}
 use Rattle.request.proofs.ReadLaws.{asked_fit, asked_unfit}
 use Rattle.request.proofs.read.judge.Goals as goal

@@ -1,10 +1,9 @@
 -- `sheet::label::are_writable` meets its contract. Assumes nothing.
-use Prim.Native.Nat.{◌-◌, ◌<◌}
+use Prim.Native.Nat.{◌<◌}
 use native.Mathlib.Omega.{arith}
-use borrow.Author.Tests.{not-true, not-false}
 use lib.ListN.{length}
 use Rattle.tree.specs.Seen.{seen}
-use Rattle.sheet.proofs.LabelLaws.{Writing, writing_begins, equals_in, repeated, writing_on, writing_ends}
+use Rattle.sheet.proofs.LabelLaws.{writing_begins, equals_in, repeated, writing_on, writing_ends}
 use Rattle.sheet.proofs.label.are_writable.Goals as goal
 
 pub loop-k-init : goal.loop-k-init

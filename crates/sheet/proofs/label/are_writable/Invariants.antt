@@ -1,9 +1,6 @@
-use Prim.Native.Nat.{◌-◌, ◌<◌}
-use native.Mathlib.Omega.{arith}
-use borrow.Author.Tests.{not-true, not-false}
-use lib.ListN.{length}
+use Prim.Native.Nat.{◌-◌}
 use Rattle.tree.specs.Seen.{seen}
-use Rattle.sheet.proofs.LabelLaws.{Writing, writing_begins, equals_in, repeated, writing_on, writing_ends}
+use Rattle.sheet.proofs.LabelLaws.{Writing}
 use Rattle.sheet.proofs.label.are_writable.Given as goal
 
 abbrev pub invariant-loop-k : goal.invariant-loop-k

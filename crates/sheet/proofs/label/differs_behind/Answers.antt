@@ -1,9 +1,9 @@
 -- `sheet::label::differs_behind` meets its contract. Assumes nothing.
-use Prim.Native.Nat.{◌-◌, ◌<◌}
+use Prim.Native.Nat.{◌<◌}
 use native.Mathlib.Omega.{arith}
 use lib.ListN.{length}
 use Rattle.tree.specs.Seen.{seen}
-use Rattle.sheet.proofs.LabelLaws.{Differing, differing_begins, differing_fails, differing_on, differing_ends}
+use Rattle.sheet.proofs.LabelLaws.{differing_begins, differing_fails, differing_on, differing_ends}
 use Rattle.sheet.proofs.label.differs_behind.Goals as goal
 
 pub loop-j-init : goal.loop-j-init

@@ -1,8 +1,6 @@
-use Prim.Native.Nat.{◌-◌, ◌<◌}
-use native.Mathlib.Omega.{arith}
-use lib.ListN.{length}
+use Prim.Native.Nat.{◌-◌}
 use Rattle.tree.specs.Seen.{seen}
-use Rattle.sheet.proofs.LabelLaws.{Differing, differing_begins, differing_fails, differing_on, differing_ends}
+use Rattle.sheet.proofs.LabelLaws.{Differing}
 use Rattle.sheet.proofs.label.differs_behind.Given as goal
 
 abbrev pub invariant-loop-j : goal.invariant-loop-j

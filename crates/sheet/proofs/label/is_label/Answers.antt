@@ -9,7 +9,6 @@ use Rattle.tree.proofs.FieldLaws.{label_front}
 use Rattle.sheet.specs.Steps.{label_at}
 use Rattle.sheet.proofs.LabelLaws.{other_front, same_front}
 use Rattle.sheet.proofs.ReadLaws.{rest_lent}
-use borrow.Author.Tests.{not-true, not-false}
 use Rattle.sheet.proofs.label.is_label.Goals as goal
 
 pub returns-then-not-begins : goal.returns-then-not-begins

@@ -1,8 +1,6 @@
 -- `sheet::label::is_plain` meets its contract. Assumes nothing.
-use Prim.Native.Nat.{◌-◌}
 use native.Mathlib.Omega.{arith}
-use lib.ListN.{length}
-use Rattle.sheet.proofs.LabelLaws.{PlainTo, plain-begins, plain_fails, plain-on, plain-ends}
+use Rattle.sheet.proofs.LabelLaws.{plain-begins, plain_fails, plain-on, plain-ends}
 use Rattle.sheet.proofs.label.is_plain.Goals as goal
 
 pub loop-i-init : goal.loop-i-init

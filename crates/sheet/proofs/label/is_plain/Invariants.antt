@@ -1,7 +1,6 @@
 use Prim.Native.Nat.{◌-◌}
-use native.Mathlib.Omega.{arith}
 use lib.ListN.{length}
-use Rattle.sheet.proofs.LabelLaws.{PlainTo, plain-begins, plain_fails, plain-on, plain-ends}
+use Rattle.sheet.proofs.LabelLaws.{PlainTo}
 use Rattle.sheet.proofs.label.is_plain.Given as goal
 
 abbrev pub invariant-loop-i : goal.invariant-loop-i

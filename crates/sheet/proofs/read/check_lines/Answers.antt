@@ -1,5 +1,5 @@
 -- `sheet::read::check_lines` meets its contract. Assumes nothing.
-use Prim.Native.Nat.{◌-◌, ◌^◌, ◌<◌}
+use Prim.Native.Nat.{◌^◌, ◌<◌}
 use native.Mathlib.Omega.{arith}
 use mathlib.Core.Path.{refl, subst}
 use borrow.Author.Tests.{not-true, not-false}
@@ -8,7 +8,7 @@ use Rattle.protocol.specs.Tree.{property_in}
 use Rattle.tree.specs.Seen.{seen}
 use Rattle.sheet.specs.Steps.{LineIs}
 use Rattle.sheet.proofs.ReadLaws.{rest_lent}
-use Rattle.sheet.proofs.LinesLaws.{Checking, check_begins, check_fails, line-ends, check_on, check_surplus, check_ends}
+use Rattle.sheet.proofs.LinesLaws.{check_begins, check_fails, line-ends, check_on, check_surplus, check_ends}
 use Rattle.sheet.proofs.read.check_lines.Goals as goal
 
 pub loop-k-init : goal.loop-k-init

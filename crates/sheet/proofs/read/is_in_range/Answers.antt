@@ -1,7 +1,6 @@
 -- `sheet::read::is_in_range` meets its contract. Assumes nothing.
 use mathlib.Core.Path.{sym, ap, ◌∙◌}
 use mathlib.Core.Bool.{◌&&◌}
-use borrow.Author.Tests.{not-true, not-false}
 use Rattle.protocol.specs.Tree.{property_in}
 use Rattle.protocol.specs.Sheet.{may_hold}
 use Rattle.tree.specs.Seen.{seen}

@@ -4,7 +4,7 @@ use native.Mathlib.Omega.{arith}
 use mathlib.Core.Path.{◌≡◌, sym, ap, ◌∙◌}
 use lib.ListN.{length}
 use borrow.Author.Tests.{not-true, not-false}
-use Rattle.protocol.specs.Tree.{Property, property_in}
+use Rattle.protocol.specs.Tree.{property_in}
 use Rattle.tree.specs.Seen.{seen}
 use Rattle.sheet.proofs.ReadLaws.{rest_lent, label_room, no_label, no_number, line-fits, line-found}
 use Rattle.sheet.proofs.read.read_line.Goals as goal

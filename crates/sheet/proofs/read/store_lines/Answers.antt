@@ -1,5 +1,5 @@
 -- `sheet::read::store_lines` meets its contract. Assumes nothing.
-use Prim.Native.Nat.{◌-◌, ◌^◌, ◌<◌}
+use Prim.Native.Nat.{◌^◌, ◌<◌}
 use native.Mathlib.Omega.{arith}
 use mathlib.Core.Path.{refl, subst}
 use lib.ListN.{length, drop}
@@ -7,7 +7,7 @@ use Rattle.protocol.specs.Tree.{property_in}
 use Rattle.tree.specs.Seen.{seen}
 use Rattle.sheet.specs.Steps.{LineIs}
 use Rattle.sheet.proofs.ReadLaws.{rest_lent}
-use Rattle.sheet.proofs.LinesLaws.{Storing, store_begins, stored-ends, store_on, store_ends}
+use Rattle.sheet.proofs.LinesLaws.{store_begins, stored-ends, store_on, store_ends}
 use Rattle.sheet.proofs.read.store_lines.Goals as goal
 
 pub loop-k-init : goal.loop-k-init

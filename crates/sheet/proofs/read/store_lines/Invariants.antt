@@ -1,12 +1,6 @@
-use Prim.Native.Nat.{◌-◌, ◌^◌, ◌<◌}
-use native.Mathlib.Omega.{arith}
-use mathlib.Core.Path.{refl, subst}
-use lib.ListN.{length, drop}
-use Rattle.protocol.specs.Tree.{property_in}
+use Prim.Native.Nat.{◌-◌}
 use Rattle.tree.specs.Seen.{seen}
-use Rattle.sheet.specs.Steps.{LineIs}
-use Rattle.sheet.proofs.ReadLaws.{rest_lent}
-use Rattle.sheet.proofs.LinesLaws.{Storing, store_begins, stored-ends, store_on, store_ends}
+use Rattle.sheet.proofs.LinesLaws.{Storing}
 use Rattle.sheet.proofs.read.store_lines.Given as goal
 
 abbrev pub invariant-loop-k : goal.invariant-loop-k

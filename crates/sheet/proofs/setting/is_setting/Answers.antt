@@ -1,6 +1,5 @@
 -- `sheet::setting::is_setting` meets its contract. Assumes nothing.
 use mathlib.Core.Path.{refl, sym, ◌∙◌}
-use borrow.Author.Tests.{not-true, not-false}
 use Rattle.tree.specs.Lookup.{numbers_of}
 use Rattle.sheet.proofs.SettingLaws.{setting_by}
 use Rattle.sheet.proofs.setting.is_setting.Goals as goal

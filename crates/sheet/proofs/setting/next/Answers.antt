@@ -1,11 +1,11 @@
 -- `sheet::setting::next` meets its contract. Assumes nothing.
-use Prim.Native.Nat.{◌-◌, ◌<◌}
+use Prim.Native.Nat.{◌<◌}
 use native.Mathlib.Omega.{arith}
 use mathlib.Core.Path.{sym, ◌∙◌}
 use lib.ListN.{length}
 use Rattle.tree.specs.Seen.{seen}
 use Rattle.protocol.specs.Sheet.{is_setting}
-use Rattle.tree.proofs.NextLaws.{Passing, pass_begins, pass_on, next-found, next_none}
+use Rattle.tree.proofs.NextLaws.{pass_begins, pass_on, next-found, next_none}
 use Rattle.sheet.proofs.SettingLaws.{setting_same}
 use Rattle.sheet.proofs.setting.next.Goals as goal
 

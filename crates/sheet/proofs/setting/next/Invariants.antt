@@ -1,11 +1,7 @@
-use Prim.Native.Nat.{◌-◌, ◌<◌}
-use native.Mathlib.Omega.{arith}
-use mathlib.Core.Path.{sym, ◌∙◌}
-use lib.ListN.{length}
+use Prim.Native.Nat.{◌-◌}
 use Rattle.tree.specs.Seen.{seen}
 use Rattle.protocol.specs.Sheet.{is_setting}
-use Rattle.tree.proofs.NextLaws.{Passing, pass_begins, pass_on, next-found, next_none}
-use Rattle.sheet.proofs.SettingLaws.{setting_same}
+use Rattle.tree.proofs.NextLaws.{Passing}
 use Rattle.sheet.proofs.setting.next.Given as goal
 
 abbrev pub invariant-loop-k : goal.invariant-loop-k

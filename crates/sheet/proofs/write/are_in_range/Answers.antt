@@ -1,10 +1,9 @@
 -- `sheet::write::are_in_range` meets its contract. Assumes nothing.
-use Prim.Native.Nat.{◌-◌, ◌<◌}
+use Prim.Native.Nat.{◌<◌}
 use native.Mathlib.Omega.{arith}
-use borrow.Author.Tests.{not-true, not-false}
 use lib.ListN.{length}
 use Rattle.tree.specs.Seen.{seen}
-use Rattle.sheet.proofs.WriteLaws.{Ranging, ranging_begins, ranging_fails, ranging_on, ranging_ends}
+use Rattle.sheet.proofs.WriteLaws.{ranging_begins, ranging_fails, ranging_on, ranging_ends}
 use Rattle.sheet.proofs.write.are_in_range.Goals as goal
 
 pub loop-k-init : goal.loop-k-init

@@ -1,9 +1,5 @@
-use Prim.Native.Nat.{◌-◌, ◌<◌}
-use native.Mathlib.Omega.{arith}
-use borrow.Author.Tests.{not-true, not-false}
-use lib.ListN.{length}
-use Rattle.tree.specs.Seen.{seen}
-use Rattle.sheet.proofs.WriteLaws.{Ranging, ranging_begins, ranging_fails, ranging_on, ranging_ends}
+use Prim.Native.Nat.{◌-◌}
+use Rattle.sheet.proofs.WriteLaws.{Ranging}
 use Rattle.sheet.proofs.write.are_in_range.Given as goal
 
 abbrev pub invariant-loop-k : goal.invariant-loop-k

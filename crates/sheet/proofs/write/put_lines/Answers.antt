@@ -1,11 +1,11 @@
 -- `sheet::write::put_lines` meets its contract. Assumes nothing.
-use Prim.Native.Nat.{◌-◌, ◌<◌}
+use Prim.Native.Nat.{◌<◌}
 use native.Mathlib.Omega.{arith}
 use lib.ListN.{length}
 use Rattle.protocol.specs.Buffer.{farthest}
 use Rattle.tree.specs.Seen.{seen}
 use Rattle.cells.specs.Cells.{cells_in}
-use Rattle.sheet.proofs.WriteLaws.{Putting, put_begins, put_on, put_ends}
+use Rattle.sheet.proofs.WriteLaws.{put_begins, put_on, put_ends}
 use Rattle.sheet.proofs.write.put_lines.Goals as goal
 
 pub loop-k-init : goal.loop-k-init

@@ -1,10 +1,7 @@
-use Prim.Native.Nat.{◌-◌, ◌<◌}
-use native.Mathlib.Omega.{arith}
-use lib.ListN.{length}
-use Rattle.protocol.specs.Buffer.{farthest}
+use Prim.Native.Nat.{◌-◌}
 use Rattle.tree.specs.Seen.{seen}
 use Rattle.cells.specs.Cells.{cells_in}
-use Rattle.sheet.proofs.WriteLaws.{Putting, put_begins, put_on, put_ends}
+use Rattle.sheet.proofs.WriteLaws.{Putting}
 use Rattle.sheet.proofs.write.put_lines.Given as goal
 
 abbrev pub invariant-loop-k : goal.invariant-loop-k

@@ -1,9 +1,8 @@
 -- `soundness::parents::parents_sound` meets its contract. Assumes nothing.
-use Prim.Native.Nat.{◌-◌}
 use native.Mathlib.Omega.{arith}
 use mathlib.Core.Path.{refl, sym, ◌∙◌}
 use Rattle.tree.proofs.SameLaws.{differ}
-use Rattle.soundness.proofs.ParentLaws.{Descending, too_many, no_device, device_elsewhere, descend-begins, descend_behind, descend_deep, descend-on, descend-ends}
+use Rattle.soundness.proofs.ParentLaws.{too_many, no_device, device_elsewhere, descend-begins, descend_behind, descend_deep, descend-on, descend-ends}
 use Rattle.soundness.proofs.parents.parents_sound.Goals as goal
 
 pub returns-then-nodes-gt-MAX_NODES : goal.returns-then-nodes-gt-MAX_NODES

@@ -1,8 +1,7 @@
 -- `soundness::texts::characters_end` meets its contract. Assumes nothing.
-use Prim.Native.Nat.{◌+◌, ◌-◌}
+use Prim.Native.Nat.{◌+◌}
 use native.Mathlib.Omega.{arith}
 use mathlib.Core.Path.{sym, ◌∙◌}
-use borrow.Author.Tests.{not-true, not-false}
 use Rattle.soundness.proofs.TextLaws.{Passing, pass_begins, pass_on, pass_two, pass_stop, pass_out}
 use Rattle.soundness.proofs.texts.characters_end.Goals as goal
 

@@ -1,8 +1,5 @@
-use Prim.Native.Nat.{◌+◌, ◌-◌}
-use native.Mathlib.Omega.{arith}
-use mathlib.Core.Path.{sym, ◌∙◌}
-use borrow.Author.Tests.{not-true, not-false}
-use Rattle.soundness.proofs.TextLaws.{Passing, pass_begins, pass_on, pass_two, pass_stop, pass_out}
+use Prim.Native.Nat.{◌-◌}
+use Rattle.soundness.proofs.TextLaws.{Passing}
 use Rattle.soundness.proofs.texts.characters_end.Given as goal
 
 abbrev pub invariant-loop-at : goal.invariant-loop-at

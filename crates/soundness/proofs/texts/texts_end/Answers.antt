@@ -1,5 +1,4 @@
 -- `soundness::texts::texts_end` meets its contract. Assumes nothing.
-use Prim.Native.Nat.{◌-◌}
 use native.Mathlib.Omega.{arith}
 use Rattle.soundness.proofs.TextLaws.{Scanning, scan_begins, scan_skip, scan_stop, scan_next, scan_ended, scan_bad, scan_out}
 use Rattle.soundness.proofs.texts.texts_end.Goals as goal

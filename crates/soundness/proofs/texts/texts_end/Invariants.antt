@@ -1,6 +1,5 @@
 use Prim.Native.Nat.{◌-◌}
-use native.Mathlib.Omega.{arith}
-use Rattle.soundness.proofs.TextLaws.{Scanning, scan_begins, scan_skip, scan_stop, scan_next, scan_ended, scan_bad, scan_out}
+use Rattle.soundness.proofs.TextLaws.{Scanning}
 use Rattle.soundness.proofs.texts.texts_end.Given as goal
 
 abbrev pub invariant-loop-at : goal.invariant-loop-at

@@ -6,7 +6,6 @@ use mathlib.Core.List.{List}
 use lib.ListN.{length}
 use Rattle.protocol.specs.Numbers.{unsound, no_room, no_frame, bad_pair, too_long}
 use Rattle.protocol.specs.Buffer.{Emits}
-use Rattle.protocol.specs.Stream.{Event}
 use Rattle.stream.specs.declared.state.Found.TheVariants.{At}
 use Rattle.stream.specs.declared.feed.Fed.{Fed}
 use Rattle.stream.specs.State.{standing}

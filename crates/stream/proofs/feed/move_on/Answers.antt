@@ -13,12 +13,15 @@ module _ (phase len b : ℕ) where
   is-paired : phase ≡ 3 → paired_of len b ≡ move_of phase len b
   unfolding move_of
   is-paired e = rw (eq-eqb phase 3 e)
+
   is-dle : phase ≡ 2 → b ≡ DLE → On (place 3 len) ≡ move_of phase len b
   unfolding move_of
   is-dle e f = rw (e, eq-eqb b DLE f)
+
   is-content : phase ≡ 2 → (b ≡ DLE → ⊥) → collect_of len ≡ move_of phase len b
   unfolding move_of
   is-content e f = rw (e, ne_eqb b DLE f)
+
   is-outside : (phase ≡ 3 → ⊥) → (phase ≡ 2 → ⊥) → outside_of phase b ≡ move_of phase len b
   unfolding move_of
   is-outside e f = rw (ne_eqb phase 3 e, ne_eqb phase 2 f)

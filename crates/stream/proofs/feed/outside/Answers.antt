@@ -16,9 +16,11 @@ module _ (phase b : ℕ) where
   opens : (eqb phase 1 && eqb b STX) ≡ true → On (place 2 0) ≡ outside_of phase b
   unfolding outside_of
   opens e = rw e
+
   waits : (eqb phase 1 && eqb b STX) ≡ false → b ≡ DLE → On (place 1 0) ≡ outside_of phase b
   unfolding outside_of
   waits e f = rw (e, eq-eqb b DLE f)
+
   lost : (eqb phase 1 && eqb b STX) ≡ false → (b ≡ DLE → ⊥) → On (place 0 0) ≡ outside_of phase b
   unfolding outside_of
   lost e f = rw (e, ne_eqb b DLE f)

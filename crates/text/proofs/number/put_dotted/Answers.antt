@@ -1,12 +1,11 @@
 -- `text::number::put_dotted` meets its contract. Assumes nothing.
-use Prim.Native.Nat.{ℕ, ◌-◌, ◌<◌}
+use Prim.Native.Nat.{◌<◌}
 use native.Mathlib.Omega.{arith}
-use mathlib.Core.Path.{◌∙◌}
-use mathlib.Core.List.{List, [], ◌∷◌}
+use mathlib.Core.List.{[], ◌∷◌}
 use lib.ListN.{length}
 use Rattle.protocol.specs.Buffer.{farthest, Laid}
 use Rattle.protocol.proofs.LayLaws.{laid_same}
-use Rattle.text.proofs.TextLaws.{others, Telling, dotted_none, dots_begin, dots_more, dotted-ends}
+use Rattle.text.proofs.TextLaws.{dotted_none, dots_begin, dots_more, dotted-ends}
 use Rattle.text.proofs.number.put_dotted.Goals as goal
 
 pub returns-then-path-eq0 : goal.returns-then-path-eq0

@@ -1,11 +1,6 @@
-use Prim.Native.Nat.{ℕ, ◌-◌, ◌<◌}
-use native.Mathlib.Omega.{arith}
-use mathlib.Core.Path.{◌∙◌}
-use mathlib.Core.List.{List, [], ◌∷◌}
+use Prim.Native.Nat.{◌-◌, ◌<◌}
 use lib.ListN.{length}
-use Rattle.protocol.specs.Buffer.{farthest, Laid}
-use Rattle.protocol.proofs.LayLaws.{laid_same}
-use Rattle.text.proofs.TextLaws.{others, Telling, dotted_none, dots_begin, dots_more, dotted-ends}
+use Rattle.text.proofs.TextLaws.{others, Telling}
 use Rattle.text.proofs.number.put_dotted.Given as goal
 
 abbrev pub invariant-loop-i : goal.invariant-loop-i

@@ -1,10 +1,8 @@
 -- `text::number::put_hex` meets its contract. Assumes nothing.
-use Prim.Native.Nat.{◌-◌}
 use native.Mathlib.Omega.{arith}
-use lib.ListN.{length}
 use Rattle.protocol.specs.Text.{hex}
-use Rattle.protocol.proofs.LayLaws.{laid_same, laid_as}
-use Rattle.text.proofs.TextLaws.{Telling, hex-begins, hex_more, tell_ends}
+use Rattle.protocol.proofs.LayLaws.{laid_as}
+use Rattle.text.proofs.TextLaws.{hex-begins, hex_more, tell_ends}
 use Rattle.text.proofs.number.put_hex.Goals as goal
 
 pub loop-i-init : goal.loop-i-init

@@ -1,9 +1,7 @@
 use Prim.Native.Nat.{◌-◌}
-use native.Mathlib.Omega.{arith}
 use lib.ListN.{length}
 use Rattle.protocol.specs.Text.{hex}
-use Rattle.protocol.proofs.LayLaws.{laid_same, laid_as}
-use Rattle.text.proofs.TextLaws.{Telling, hex-begins, hex_more, tell_ends}
+use Rattle.text.proofs.TextLaws.{Telling}
 use Rattle.text.proofs.number.put_hex.Given as goal
 
 abbrev pub invariant-loop-i : goal.invariant-loop-i

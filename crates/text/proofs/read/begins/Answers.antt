@@ -1,8 +1,5 @@
 -- `text::read::begins` meets its contract. Assumes nothing.
-use Prim.Native.Nat.{◌-◌}
-use native.Mathlib.Omega.{arith}
-use lib.ListN.{length}
-use Rattle.text.proofs.ReadLaws.{Matching, begins_short, match_begins, match_other, match_more, match_ends}
+use Rattle.text.proofs.ReadLaws.{begins_short, match_begins, match_other, match_more, match_ends}
 use Rattle.text.proofs.read.begins.Goals as goal
 
 pub returns-then-bs-front : goal.returns-then-bs-front

@@ -1,7 +1,6 @@
 use Prim.Native.Nat.{◌-◌}
-use native.Mathlib.Omega.{arith}
 use lib.ListN.{length}
-use Rattle.text.proofs.ReadLaws.{Matching, begins_short, match_begins, match_other, match_more, match_ends}
+use Rattle.text.proofs.ReadLaws.{Matching}
 use Rattle.text.proofs.read.begins.Given as goal
 
 abbrev pub invariant-loop-i : goal.invariant-loop-i

@@ -1,7 +1,6 @@
 -- `text::read::below_zero` meets its contract. Assumes nothing.
 use native.Mathlib.Omega.{arith}
 use mathlib.Core.Path.{sym, ◌∙◌}
-use borrow.Author.Tests.{not-true, not-false}
 use Rattle.protocol.proofs.SignedLaws.{digits_inside, numeral_inside}
 use Rattle.text.proofs.ReadLaws.{told_none, minus_none, minus_zero, told_minus}
 use Rattle.text.proofs.read.below_zero.Goals as goal

@@ -1,7 +1,6 @@
 -- `text::read::plain` meets its contract. Assumes nothing.
 use native.Mathlib.Omega.{arith}
 use mathlib.Core.Path.{sym, ◌∙◌}
-use borrow.Author.Tests.{not-true, not-false}
 use Rattle.protocol.proofs.SignedLaws.{digits_inside}
 use Rattle.text.proofs.ReadLaws.{told_none, told_plain}
 use Rattle.text.proofs.read.plain.Goals as goal

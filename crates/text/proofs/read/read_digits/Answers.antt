@@ -1,8 +1,5 @@
 -- `text::read::read_digits` meets its contract. Assumes nothing.
-use Prim.Native.Nat.{◌-◌}
-use native.Mathlib.Omega.{arith}
-use lib.ListN.{length}
-use Rattle.text.proofs.ReadLaws.{Scanning, scan_begins, scan_low, scan_high, scan_more, scan_ends}
+use Rattle.text.proofs.ReadLaws.{scan_begins, scan_low, scan_high, scan_more, scan_ends}
 use Rattle.text.proofs.read.read_digits.Goals as goal
 
 pub loop-len-init : goal.loop-len-init

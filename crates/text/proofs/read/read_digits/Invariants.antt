@@ -1,7 +1,6 @@
 use Prim.Native.Nat.{◌-◌}
-use native.Mathlib.Omega.{arith}
 use lib.ListN.{length}
-use Rattle.text.proofs.ReadLaws.{Scanning, scan_begins, scan_low, scan_high, scan_more, scan_ends}
+use Rattle.text.proofs.ReadLaws.{Scanning}
 use Rattle.text.proofs.read.read_digits.Given as goal
 
 abbrev pub invariant-loop-len : goal.invariant-loop-len

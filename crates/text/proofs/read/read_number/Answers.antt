@@ -1,6 +1,5 @@
 -- `text::read::read_number` meets its contract. Assumes nothing.
 use mathlib.Core.Path.{refl}
-use borrow.Author.Tests.{not-true, not-false}
 use Rattle.text.proofs.ReadLaws.{told_none, number_none, number_unsigned, number-plain, number_minus}
 use Rattle.text.proofs.read.read_number.Goals as goal
 

@@ -1,11 +1,11 @@
 -- `tree::live::next` meets its contract. Assumes nothing.
-use Prim.Native.Nat.{◌-◌, ◌<◌}
+use Prim.Native.Nat.{◌<◌}
 use native.Mathlib.Omega.{arith}
 use mathlib.Core.Path.{sym, ◌∙◌}
 use lib.ListN.{length}
 use Rattle.protocol.specs.Tree.{is_live}
 use Rattle.tree.specs.Seen.{seen}
-use Rattle.tree.proofs.NextLaws.{Passing, pass_begins, pass_on, next-found, next_none, live_same}
+use Rattle.tree.proofs.NextLaws.{pass_begins, pass_on, next-found, next_none, live_same}
 use Rattle.tree.proofs.live.next.Goals as goal
 
 pub loop-k-init : goal.loop-k-init

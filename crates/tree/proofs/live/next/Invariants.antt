@@ -1,10 +1,7 @@
-use Prim.Native.Nat.{◌-◌, ◌<◌}
-use native.Mathlib.Omega.{arith}
-use mathlib.Core.Path.{sym, ◌∙◌}
-use lib.ListN.{length}
+use Prim.Native.Nat.{◌-◌}
 use Rattle.protocol.specs.Tree.{is_live}
 use Rattle.tree.specs.Seen.{seen}
-use Rattle.tree.proofs.NextLaws.{Passing, pass_begins, pass_on, next-found, next_none, live_same}
+use Rattle.tree.proofs.NextLaws.{Passing}
 use Rattle.tree.proofs.live.next.Given as goal
 
 abbrev pub invariant-loop-k : goal.invariant-loop-k

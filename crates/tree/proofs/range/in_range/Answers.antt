@@ -1,7 +1,6 @@
 -- `tree::range::in_range` meets its contract. Assumes nothing.
 use mathlib.Core.Path.{◌≡◌, refl, sym, ◌∙◌}
 use mathlib.Core.Bool.{Bool, ◌&&◌}
-use borrow.Author.Tests.{not-true, not-false}
 use Rattle.protocol.specs.Bytes.{at_most}
 use Rattle.protocol.specs.Answer.{in_range}
 use Rattle.tree.specs.Lookup.{numbers_of}

@@ -1,9 +1,7 @@
 -- `tree::record::cut_record` meets its contract. Assumes nothing.
-use Prim.Native.Nat.{◌-◌}
 use native.Mathlib.Omega.{arith}
 use mathlib.Core.Path.{refl}
-use Rattle.tree.specs.Form.{property_size}
-use Rattle.tree.proofs.FieldLaws.{Cutting, cut-begins, cut_more, cut-ends}
+use Rattle.tree.proofs.FieldLaws.{cut-begins, cut_more, cut-ends}
 use Rattle.tree.proofs.record.cut_record.Goals as goal
 
 pub loop-i-init : goal.loop-i-init

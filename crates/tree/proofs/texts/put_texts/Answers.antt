@@ -1,10 +1,6 @@
 -- `tree::texts::put_texts` meets its contract. Assumes nothing.
-use Prim.Native.Nat.{◌-◌}
 use native.Mathlib.Omega.{arith}
-use lib.ListN.{length, drop}
-use Rattle.protocol.specs.Bytes.{texts}
-use Rattle.tree.specs.Seen.{texts_from}
-use Rattle.tree.proofs.TextLaws.{Copying, copy_begins, copy_more, copy_full, copy_ends}
+use Rattle.tree.proofs.TextLaws.{copy_begins, copy_more, copy_full, copy_ends}
 use Rattle.tree.proofs.texts.put_texts.Goals as goal
 
 pub loop-next-init : goal.loop-next-init

@@ -1,9 +1,8 @@
 use Prim.Native.Nat.{◌-◌}
-use native.Mathlib.Omega.{arith}
 use lib.ListN.{length, drop}
 use Rattle.protocol.specs.Bytes.{texts}
 use Rattle.tree.specs.Seen.{texts_from}
-use Rattle.tree.proofs.TextLaws.{Copying, copy_begins, copy_more, copy_full, copy_ends}
+use Rattle.tree.proofs.TextLaws.{Copying}
 use Rattle.tree.proofs.texts.put_texts.Given as goal
 
 abbrev pub invariant-loop-next : goal.invariant-loop-next
