@@ -1,7 +1,7 @@
 """Runs the bench program on streams made at random, compares every line with the rules of tests/cases.py, and sees that every number
 that the program can give was met.
 
-Usage: bench.py PROGRAM [ROUNDS]        (target/bin/bench, after rt check bench)
+Usage: bench.py PROGRAM [ROUNDS]        (crates/bench/out/bench, after rt run in crates/bench)
 """
 import random
 import subprocess

@@ -6,7 +6,7 @@ cd "$(dirname "$0")/.."
 library=target/staticlib/libpualirqiq.a
 strict="-Wall -Wextra -Wpedantic -Werror -Iinclude"
 
-rt staticlib pualirqiq > target/staticlib.log 2>&1 || { tail -n 5 target/staticlib.log; exit 1; }
+. tests/build-library.sh
 others=$(nm --undefined-only $library | awk '$1 == "U" && $2 != "memcpy" && $2 != "memset" { print $2 }')
 [ -z "$others" ] || { echo "the library also needs: $others"; exit 1; }
 data=$(size $library | awk 'NR > 1 { sum += $2 + $3 } END { print sum }')

@@ -1,7 +1,7 @@
 """Runs the program `list` on trees made at random, on broken ones, and on trees fed in pieces, and compares all that it prints with
 the listing of tests/cases.py.
 
-Usage: list.py PROGRAM [ROUNDS]        (target/bin/list, after rt check list)
+Usage: list.py PROGRAM [ROUNDS]        (crates/list/out/list, after rt run in crates/list)
 """
 import random
 import subprocess

@@ -6,74 +6,85 @@ ghost use Rattle.std.specs.Prelude.{◌≡◌, true};
 ghost use Rattle.stream.specs.State.{has_form};
 ghost use Rattle.console.specs.Steps.{Progress};
 
-use libc::{STDIN_FILENO, STDOUT_FILENO};
+use std::io;
+use std::io::Read;
 
 // How many bytes a step took, and whether its lines could be written.
 #[derive(Drop)]
 pub(crate) struct Told {
     pub taken: usize,
-    pub written: bool,
+    pub written: io::Result<()>,
 }
 
 // One step over a part of the input, and its lines written.
-fn show(state: &mut [u8], cells: &mut [u8], bytes: &[u8]) -> Told
+fn show(rt: &impl Print, state: &mut [u8], cells: &mut [u8], bytes: &[u8]) -> Told
     requires { has_form state.old ≡ true }
     ensures { Progress bytes.now result.taken state.new }
 {
     let mut text = [0u8; 1058];
     let shown = console::bench::step(state, cells, bytes, &mut text);
     let len = shown.len;
-    let written = io::write_all(STDOUT_FILENO, &text[..len]);
+    let written = rt.write_all(&text[..len]);
     Told {
         taken: shown.taken,
         written,
     }
 }
 
-// All of a part of the input, step by step. Returns whether to go on: false only where a line could not be written.
-fn show_all(state: &mut [u8], cells: &mut [u8], bytes: &[u8]) -> bool
+// All of a part of the input, step by step. Fails only where a line could not be written.
+fn show_all(rt: &impl Print, state: &mut [u8], cells: &mut [u8], bytes: &[u8]) -> io::Result<()>
     requires { has_form state.old ≡ true }
     ensures { has_form state.new ≡ true }
 {
     let mut at = 0;
     while at < bytes.len() {
-        let told = show(state, cells, &bytes[at..]);
+        let told = show(rt, state, cells, &bytes[at..]);
         at += told.taken;
-        if !told.written {
-            return false;
-        }
+        told.written?;
     }
-    true
+    Ok(())
 }
 
-// One read, and what came of it. Returns whether to go on.
-fn read_some(state: &mut [u8], cells: &mut [u8]) -> bool
+// One read, and what came of it. Returns whether to go on: false where the input ends.
+fn read_some<R: Read>(
+    rt: &impl Print,
+    input: &mut R,
+    state: &mut [u8],
+    cells: &mut [u8],
+) -> io::Result<bool>
     requires { has_form state.old ≡ true }
     ensures { has_form state.new ≡ true }
 {
-    let mut input = io::buffer();
-    let got = libc::read(STDIN_FILENO, &mut input);
-    if got <= 0 {
-        return false;
+    let mut part = [0u8; 4096];
+    let n = input.read(&mut part)?;
+    if n == 0 {
+        return Ok(false);
     }
-    let n = io::count(got, &input);
-    show_all(state, cells, &input[..n])
+    show_all(rt, state, cells, &part[..n])?;
+    Ok(true)
 }
 
-// Reads until the input ends. A proved loop has to end, and nothing says that the input does: so it counts its turns down, from a
-// number that no run uses up.
-fn read_all(state: &mut [u8], cells: &mut [u8])
+// Reads until the input ends. A proved loop has to end, and nothing says that the input does: so it counts its turns, up to a
+// number that no run reaches.
+fn read_all<R: Read>(
+    rt: &impl Print,
+    input: &mut R,
+    state: &mut [u8],
+    cells: &mut [u8],
+) -> io::Result<()>
     requires { has_form state.old ≡ true }
 {
-    let mut turns = u64::MAX;
-    while turns > 0 && read_some(state, cells) {
-        turns -= 1;
+    for _ in 0..u64::MAX {
+        if !read_some(rt, input, state, cells)? {
+            break;
+        }
     }
+    Ok(())
 }
 
-fn main() {
-    io::write_all(STDOUT_FILENO, b"address=0\n");
+fn main(rt: HostRuntime) -> io::Result<()> {
+    rt.write_all(b"address=0\n")?;
     let mut state = [0u8; 261];
     let mut cells = cells::bench::cells();
-    read_all(&mut state, &mut cells);
+    read_all(&rt, &mut rt.reader(), &mut state, &mut cells)
 }

@@ -14,11 +14,11 @@
 mod record;
 mod show;
 
-ghost use Rattle.std.specs.Prelude.{◌≡◌, length};
+ghost use Rattle.std.specs.Prelude.{◌≡◌, ◌≤◌, length};
 
 use calls::Numbers;
-use libc::STDIN_FILENO;
 use record::BROKEN;
+use std::io;
 
 // How many bytes the numbers of a case are.
 const NUMBERS: usize = 12;
@@ -44,31 +44,64 @@ fn numbers_of(b: &[u8; NUMBERS]) -> Numbers {
 
 // Makes the call of a case, and shows its line. Returns false where the kind is not known.
 fn show_kind(
+    rt: &impl Print,
     name: &[u8],
     n: Numbers,
     string: &[u8],
     tree: &[u8],
     lent: &mut [u8],
     out: &mut [u8],
-) -> bool {
+) -> io::Result<bool> {
     let called = calls::run(n, string, tree, lent, out);
     let len = called.len;
     if called.known {
-        show::line(name, called.number, &out[..len]);
+        show::line(rt, name, called.number, &out[..len])?;
     }
-    called.known
+    Ok(called.known)
+}
+
+// How many bytes of a buffer a number stands for: none where it is below 0, and never more than there are.
+fn count(n: isize, buffer: &[u8]) -> usize
+    ensures { result ≤ length buffer.now }
+{
+    if n < 0 {
+        return 0;
+    }
+    (n as usize).min(buffer.len())
 }
 
 // The same with the room and the size that the numbers give.
-fn run_in_room(name: &[u8], n: Numbers, string: &[u8], tree: &[u8], lent: &mut [u8]) -> bool {
+fn run_in_room(
+    rt: &impl Print,
+    name: &[u8],
+    n: Numbers,
+    string: &[u8],
+    tree: &[u8],
+    lent: &mut [u8],
+) -> io::Result<bool> {
     let mut out = [0u8; OUT_ROOM];
-    let room = io::count(n.room, &out);
-    let size = io::count(n.lent, lent);
-    show_kind(name, n, string, tree, &mut lent[..size], &mut out[..room])
+    let room = count(n.room, &out);
+    let size = count(n.lent, lent);
+    show_kind(
+        rt,
+        name,
+        n,
+        string,
+        tree,
+        &mut lent[..size],
+        &mut out[..room],
+    )
 }
 
 // Runs a case whose string starts at a place. Returns where the next case starts, 0 where this one is broken.
-fn run_fields(name: &[u8], n: Numbers, text: &[u8], from: usize, lent: &mut [u8]) -> usize {
+fn run_fields(
+    rt: &impl Print,
+    name: &[u8],
+    n: Numbers,
+    text: &[u8],
+    from: usize,
+    lent: &mut [u8],
+) -> io::Result<usize> {
     let mut string = [0u8; FIELD_ROOM];
     let string_part = record::field(text, from, b'|', &mut string);
     let s = string_part.len;
@@ -77,39 +110,39 @@ fn run_fields(name: &[u8], n: Numbers, text: &[u8], from: usize, lent: &mut [u8]
     let t = tree_part.len;
     let lent_part = record::field(text, tree_part.next, b'\n', lent);
     if lent_part.next == BROKEN {
-        return 0;
+        return Ok(0);
     }
-    if run_in_room(name, n, &string[..s], &tree[..t], lent) {
-        return lent_part.next;
+    if run_in_room(rt, name, n, &string[..s], &tree[..t], lent)? {
+        return Ok(lent_part.next);
     }
-    0
+    Ok(0)
 }
 
 // The same for a case that starts at a place.
-fn run_case(text: &[u8], from: usize, lent: &mut [u8]) -> usize {
+fn run_case(rt: &impl Print, text: &[u8], from: usize, lent: &mut [u8]) -> io::Result<usize> {
     let end = record::field_end(text, from, b'|');
     if text.len() <= end {
-        return 0;
+        return Ok(0);
     }
     let mut b = [0u8; NUMBERS];
     let part = record::field(text, end + 1, b'|', &mut b);
     if part.len != NUMBERS {
-        return 0;
+        return Ok(0);
     }
-    run_fields(&text[from..end], numbers_of(&b), text, part.next, lent)
+    run_fields(rt, &text[from..end], numbers_of(&b), text, part.next, lent)
 }
 
 // Runs all cases of a text.
-fn run_all(text: &[u8], lent: &mut [u8]) {
+fn run_all(rt: &impl Print, text: &[u8], lent: &mut [u8]) -> io::Result<()> {
     let mut at = 0;
     while at < text.len() {
-        let next = run_case(text, at, lent);
+        let next = run_case(rt, text, at, lent)?;
         if next <= at {
-            show::broken();
-            return;
+            return show::broken(rt);
         }
         at = next;
     }
+    Ok(())
 }
 
 // Room for the text of all cases.
@@ -120,13 +153,12 @@ fn text_buffer() -> [u8; 131072]
 }
 
 // A text that fills the buffer may be longer than it.
-fn main() {
+fn main(rt: HostRuntime) -> io::Result<()> {
     let mut text = text_buffer();
-    let n = io::read_full(STDIN_FILENO, &mut text);
+    let n = input::read_full(&mut rt.reader(), &mut text)?;
     if n == text.len() {
-        show::broken();
-        return;
+        return show::broken(&rt);
     }
     let mut lent = [0u8; FIELD_ROOM];
-    run_all(&text[..n], &mut lent);
+    run_all(&rt, &text[..n], &mut lent)
 }

@@ -1,28 +1,25 @@
 // A line for each case: its name, the number returned, and the bytes written in hex.
-use libc::STDOUT_FILENO;
+use std::io;
 
-fn show_byte(b: u8) {
+fn show_byte(rt: &impl Print, b: u8) -> io::Result<()> {
     let digits = text::number::hex_byte(b);
-    io::write_all(STDOUT_FILENO, &digits);
+    rt.write_all(&digits)
 }
 
-fn show_bytes(bytes: &[u8]) {
-    let mut i = 0;
-    while i < bytes.len() {
-        show_byte(bytes[i]);
-        i += 1;
+fn show_bytes(rt: &impl Print, bytes: &[u8]) -> io::Result<()> {
+    for b in bytes {
+        show_byte(rt, *b)?;
     }
+    Ok(())
 }
 
-pub(crate) fn line(name: &[u8], number: u8, bytes: &[u8]) {
-    io::write_all(STDOUT_FILENO, name);
-    io::write_all(STDOUT_FILENO, b": ");
-    io::print_decimal(STDOUT_FILENO, number as u64);
-    io::write_all(STDOUT_FILENO, b" ");
-    show_bytes(bytes);
-    io::write_all(STDOUT_FILENO, b"\n");
+pub(crate) fn line(rt: &impl Print, name: &[u8], number: u8, bytes: &[u8]) -> io::Result<()> {
+    rt.write_all(name)?;
+    print!(rt; ": {number} ")?;
+    show_bytes(rt, bytes)?;
+    rt.write_all(b"\n")
 }
 
-pub(crate) fn broken() {
-    io::write_all(STDOUT_FILENO, b"broken\n");
+pub(crate) fn broken(rt: &impl Print) -> io::Result<()> {
+    println!(rt; "broken")
 }

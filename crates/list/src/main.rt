@@ -4,9 +4,9 @@
 
 ghost use Rattle.std.specs.Prelude.{◌≡◌, length};
 
-use libc::{STDIN_FILENO, STDOUT_FILENO};
 use listing::LISTING_ROOM;
 use listing::print::INPUT_ROOM;
+use std::io;
 
 // Room for the longest lent form and one byte more, by which a longer input is told.
 fn input_buffer() -> [u8; INPUT_ROOM]
@@ -22,10 +22,10 @@ fn output_buffer() -> [u8; LISTING_ROOM]
     [0; LISTING_ROOM]
 }
 
-fn main() {
-    let mut input = input_buffer();
-    let n = io::read_full(STDIN_FILENO, &mut input);
+fn main(rt: HostRuntime) -> io::Result<()> {
+    let mut form = input_buffer();
+    let n = input::read_full(&mut rt.reader(), &mut form)?;
     let mut out = output_buffer();
-    let len = listing::print::print(&input[..n], &mut out);
-    io::write_all(STDOUT_FILENO, &out[..len]);
+    let len = listing::print::print(&form[..n], &mut out);
+    rt.write_all(&out[..len])
 }

@@ -1,4 +1,5 @@
-// The C interface of the box (include/pualirqiq.h): every call on numbers and byte slices, thin over the crates below.
+// The C interface of the box (include/pualirqiq.h), as functions of Rattle: every call on numbers and byte slices, thin over the crates
+// below. The crate `pualirqiq_c` exports them.
 #![tactic(auto)]
 
 ghost use Rattle.std.specs.Prelude.{◌≡◌, true, length};
@@ -24,8 +25,7 @@ use protocol::{DONE, NO_READING, NO_SUCH_PROPERTY, PropertyIndex, UNSOUND};
 use request::Asked;
 
 // How long a stream state is.
-#[unsafe(no_mangle)]
-pub extern "C" fn pq_state_size() -> usize
+pub fn pq_state_size() -> usize
     ensures { result ≡ state_length }
 {
     stream::state::STATE_LEN
@@ -44,8 +44,7 @@ fn clear(buffer: &mut [u8]) -> u8
 }
 
 // A state in which a stream begins: 1 or 0.
-#[unsafe(no_mangle)]
-pub extern "C" fn pq_begin_stream(state: &mut [u8]) -> u8
+pub fn pq_begin_stream(state: &mut [u8]) -> u8
     ensures { Zeroes (is_state_sized state.old) state_length state.old result state.new }
 {
     if state.len() != stream::state::STATE_LEN {
@@ -55,8 +54,7 @@ pub extern "C" fn pq_begin_stream(state: &mut [u8]) -> u8
 }
 
 // Bytes fed to the stream reader: 1, 8, then what the stream rule gives, or 255 where no frame ended.
-#[unsafe(no_mangle)]
-pub extern "C" fn pq_feed(
+pub fn pq_feed(
     state: &mut [u8],
     address: u8,
     bytes: &[u8],
@@ -73,16 +71,14 @@ pub extern "C" fn pq_feed(
 }
 
 // The check of a tree and its cells: 1 or 0.
-#[unsafe(no_mangle)]
-pub extern "C" fn pq_check(tree: &[u8], cells: &[u8]) -> u8
+pub fn pq_check(tree: &[u8], cells: &[u8]) -> u8
     ensures { result ≡ lent_number tree.now cells.now }
 {
     cells::check::check(tree, cells)
 }
 
 // The check of a tree alone: 1 or 0.
-#[unsafe(no_mangle)]
-pub extern "C" fn pq_check_tree(tree: &[u8]) -> u8
+pub fn pq_check_tree(tree: &[u8]) -> u8
     ensures { result ≡ tree_number tree.now }
 {
     if soundness::is_tree(tree) {
@@ -92,8 +88,7 @@ pub extern "C" fn pq_check_tree(tree: &[u8]) -> u8
 }
 
 // How many bytes the cells of a tree take; 0 where it is not sound.
-#[unsafe(no_mangle)]
-pub extern "C" fn pq_cells_size(tree: &[u8]) -> usize
+pub fn pq_cells_size(tree: &[u8]) -> usize
     ensures { result ≡ cells_size tree.now }
 {
     if !soundness::is_tree(tree) {
@@ -103,8 +98,7 @@ pub extern "C" fn pq_cells_size(tree: &[u8]) -> usize
 }
 
 // The listing of a tree: 1, 8 or 0. Its length is told with 8 too.
-#[unsafe(no_mangle)]
-pub extern "C" fn pq_list(tree: &[u8], out: &mut [u8], len: &mut usize) -> u8
+pub fn pq_list(tree: &[u8], out: &mut [u8], len: &mut usize) -> u8
     ensures { Lists tree.now out.old result len.new out.new }
 {
     let listed = listing::list(tree, out);
@@ -113,8 +107,7 @@ pub extern "C" fn pq_list(tree: &[u8], out: &mut [u8], len: &mut usize) -> u8
 }
 
 // The settings on a sheet: 1, 17, 18, 8 or 0. Its length is told with 8 too.
-#[unsafe(no_mangle)]
-pub extern "C" fn pq_write_sheet(tree: &[u8], cells: &[u8], out: &mut [u8], len: &mut usize) -> u8
+pub fn pq_write_sheet(tree: &[u8], cells: &[u8], out: &mut [u8], len: &mut usize) -> u8
     ensures { Fills (written tree.now cells.now) out.old result len.new out.new }
 {
     let sheet = sheet::write_sheet(tree, cells, out);
@@ -123,16 +116,14 @@ pub extern "C" fn pq_write_sheet(tree: &[u8], cells: &[u8], out: &mut [u8], len:
 }
 
 // The settings of a sheet stored, all or none: 1, 17, 18 or 0.
-#[unsafe(no_mangle)]
-pub extern "C" fn pq_read_sheet(tree: &[u8], cells: &mut [u8], sheet: &[u8]) -> u8
+pub fn pq_read_sheet(tree: &[u8], cells: &mut [u8], sheet: &[u8]) -> u8
     ensures { Updates (load_in tree.now cells.old sheet.now) result cells.new }
 {
     sheet::read_sheet(tree, cells, sheet)
 }
 
 // Cells that begin: every word 0, none ready: 1 or 0.
-#[unsafe(no_mangle)]
-pub extern "C" fn pq_begin_cells(tree: &[u8], cells: &mut [u8]) -> u8
+pub fn pq_begin_cells(tree: &[u8], cells: &mut [u8]) -> u8
     ensures { Zeroes (is_cells_sized tree.now cells.old) (cells_size tree.now) cells.old result cells.new }
 {
     if !soundness::is_tree(tree) {
@@ -145,24 +136,21 @@ pub extern "C" fn pq_begin_cells(tree: &[u8], cells: &mut [u8]) -> u8
 }
 
 // A reading posted to a live property: 1, 14 or 0.
-#[unsafe(no_mangle)]
-pub extern "C" fn pq_post(tree: &[u8], cells: &mut [u8], place: usize, word: u32, ready: u8) -> u8
+pub fn pq_post(tree: &[u8], cells: &mut [u8], place: usize, word: u32, ready: u8) -> u8
     ensures { Updates (post_in tree.now cells.old place word (truth ready)) result cells.new }
 {
     cells::update::post(tree, cells, place, word, ready != 0)
 }
 
 // Saved cells lent again, every live property marked not ready: 1 or 0.
-#[unsafe(no_mangle)]
-pub extern "C" fn pq_restore_cells(tree: &[u8], cells: &mut [u8]) -> u8
+pub fn pq_restore_cells(tree: &[u8], cells: &mut [u8]) -> u8
     ensures { Updates (restore_in tree.now cells.old) result cells.new }
 {
     cells::update::restore(tree, cells)
 }
 
 // The number that the property at a place has to read: 1, 16 (no such property), 12 (no number) or 0.
-#[unsafe(no_mangle)]
-pub extern "C" fn pq_reading(tree: &[u8], cells: &[u8], place: usize, word: &mut u32) -> u8
+pub fn pq_reading(tree: &[u8], cells: &[u8], place: usize, word: &mut u32) -> u8
     ensures { Reads (read_in tree.now cells.now place) word.old result word.new }
 {
     if cells::check::check(tree, cells) != DONE {
@@ -179,8 +167,7 @@ pub extern "C" fn pq_reading(tree: &[u8], cells: &[u8], place: usize, word: &mut
 }
 
 // Request data served: 1, 8, 4, 5, 9, 10, 11, 15, 16, 12, 13 or 0.
-#[unsafe(no_mangle)]
-pub extern "C" fn pq_serve_data(
+pub fn pq_serve_data(
     tree: &[u8],
     cells: &mut [u8],
     host: u8,
@@ -200,8 +187,7 @@ pub extern "C" fn pq_serve_data(
 }
 
 // A serial string served for the box's address: 1, 8, 2, 3, 4, 5, 6, 7, 9, 10, 11, 15, 16, 12, 13 or 0.
-#[unsafe(no_mangle)]
-pub extern "C" fn pq_serve_serial(
+pub fn pq_serve_serial(
     tree: &[u8],
     cells: &mut [u8],
     host: u8,
@@ -222,8 +208,7 @@ pub extern "C" fn pq_serve_serial(
 }
 
 // A datagram served: 1, 8, 2, 4, 5, 9, 10, 11, 15, 16, 12, 13 or 0.
-#[unsafe(no_mangle)]
-pub extern "C" fn pq_serve_udp(
+pub fn pq_serve_udp(
     tree: &[u8],
     cells: &mut [u8],
     host: u8,
@@ -243,8 +228,7 @@ pub extern "C" fn pq_serve_udp(
 }
 
 // Data framed for an address: 8, 4, 5 or 0.
-#[unsafe(no_mangle)]
-pub extern "C" fn pq_frame(address: u8, payload: &[u8], out: &mut [u8], len: &mut usize) -> u8
+pub fn pq_frame(address: u8, payload: &[u8], out: &mut [u8], len: &mut usize) -> u8
     ensures { Emits (if_room room_serial (length out.old) (write_frame address payload.now)) out.old result len.new out.new }
 {
     let framed = frame::write::write_frame(address, payload, out);
@@ -253,8 +237,7 @@ pub extern "C" fn pq_frame(address: u8, payload: &[u8], out: &mut [u8], len: &mu
 }
 
 // Data in a datagram: 8, 4, 5 or 0.
-#[unsafe(no_mangle)]
-pub extern "C" fn pq_datagram(payload: &[u8], out: &mut [u8], len: &mut usize) -> u8
+pub fn pq_datagram(payload: &[u8], out: &mut [u8], len: &mut usize) -> u8
     ensures { Emits (if_room room_udp (length out.old) (write_datagram payload.now)) out.old result len.new out.new }
 {
     let packet = datagram::write_datagram(payload, out);
@@ -263,8 +246,7 @@ pub extern "C" fn pq_datagram(payload: &[u8], out: &mut [u8], len: &mut usize) -
 }
 
 // A serial string's data, copied: 8, 2, 3, 4, 5, 6, 7 or 0.
-#[unsafe(no_mangle)]
-pub extern "C" fn pq_read_frame(address: u8, string: &[u8], out: &mut [u8], len: &mut usize) -> u8
+pub fn pq_read_frame(address: u8, string: &[u8], out: &mut [u8], len: &mut usize) -> u8
     ensures { Emits (if_room room_data (length out.old) (read_frame address string.now)) out.old result len.new out.new }
 {
     let copied = frame::read::read_frame(address, string, out);
@@ -273,8 +255,7 @@ pub extern "C" fn pq_read_frame(address: u8, string: &[u8], out: &mut [u8], len:
 }
 
 // Where a datagram's data stands in it: 2, 4, 5 or 0.
-#[unsafe(no_mangle)]
-pub extern "C" fn pq_datagram_data(datagram: &[u8], offset: &mut usize, len: &mut usize) -> u8
+pub fn pq_datagram_data(datagram: &[u8], offset: &mut usize, len: &mut usize) -> u8
     ensures { Locates (read_datagram datagram.now) datagram.now result offset.new len.new }
 {
     let number = datagram::number_of(datagram);
@@ -313,8 +294,7 @@ fn hand_back(
 }
 
 // A serial string read as a request: 2, 3, 4, 5, 6, 7, 10, 11 or 0.
-#[unsafe(no_mangle)]
-pub extern "C" fn pq_read_serial(
+pub fn pq_read_serial(
     address: u8,
     string: &[u8],
     op: &mut u8,
@@ -336,8 +316,7 @@ pub extern "C" fn pq_read_serial(
 }
 
 // A datagram read as a request: 2, 4, 5, 10, 11 or 0.
-#[unsafe(no_mangle)]
-pub extern "C" fn pq_read_udp(
+pub fn pq_read_udp(
     datagram: &[u8],
     op: &mut u8,
     path: &mut [u8; 16],
@@ -358,8 +337,7 @@ pub extern "C" fn pq_read_udp(
 }
 
 // A request written out in a frame for an address: 8, 10, 11 or 0.
-#[unsafe(no_mangle)]
-pub extern "C" fn pq_write_serial(
+pub fn pq_write_serial(
     address: u8,
     op: u8,
     path: &[u8],
@@ -376,8 +354,7 @@ pub extern "C" fn pq_write_serial(
 }
 
 // A request written out in a datagram: 8, 10, 11 or 0.
-#[unsafe(no_mangle)]
-pub extern "C" fn pq_write_udp(
+pub fn pq_write_udp(
     op: u8,
     path: &[u8],
     index: u8,
@@ -393,8 +370,7 @@ pub extern "C" fn pq_write_udp(
 }
 
 // A station's Buslink frame of a type: 1, 8, 19 or 0. Its data stands at the front of the output.
-#[unsafe(no_mangle)]
-pub extern "C" fn pq_buslink_send(
+pub fn pq_buslink_send(
     tree: &[u8],
     cells: &[u8],
     base: u8,
@@ -411,8 +387,7 @@ pub extern "C" fn pq_buslink_send(
 }
 
 // A table of a Buslink receiver's records that begins: 1 or 0.
-#[unsafe(no_mangle)]
-pub extern "C" fn pq_begin_buslink(records: &mut [u8]) -> u8
+pub fn pq_begin_buslink(records: &mut [u8]) -> u8
     ensures { Zeroes (is_table records.old) table_size records.old result records.new }
 {
     if records.len() != buslink::TABLE_SIZE {
@@ -422,8 +397,7 @@ pub extern "C" fn pq_begin_buslink(records: &mut [u8]) -> u8
 }
 
 // A Buslink frame received for a station: 1, 19, 20 or 0. Tells which of the indicators that it carried are usable.
-#[unsafe(no_mangle)]
-pub extern "C" fn pq_buslink_receive(
+pub fn pq_buslink_receive(
     records: &mut [u8],
     base: u8,
     sub: u8,
@@ -439,8 +413,7 @@ pub extern "C" fn pq_buslink_receive(
 }
 
 // What a Buslink receiver's records hold of an indicator: 1, 19 or 0.
-#[unsafe(no_mangle)]
-pub extern "C" fn pq_buslink_indicator(
+pub fn pq_buslink_indicator(
     records: &[u8],
     indicator: u8,
     value: &mut i32,

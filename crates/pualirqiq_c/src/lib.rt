@@ -1,0 +1,331 @@
+// The exports of the static library (include/pualirqiq.h). Each calls the function of `pualirqiq` that has its name, and promises the
+// same.
+#![tactic(auto)]
+
+ghost use Rattle.std.specs.Prelude.{◌≡◌, length};
+ghost use Rattle.protocol.specs.Numbers.{room_data, room_serial, room_udp};
+ghost use Rattle.protocol.specs.Frame.{if_room, read_frame, read_datagram, write_frame, write_datagram};
+ghost use Rattle.protocol.specs.Buffer.{Emits, Fills};
+ghost use Rattle.protocol.specs.Request.{request_of, read_serial, read_udp, serial_form, udp_form};
+ghost use Rattle.stream.specs.State.{state_length};
+ghost use Rattle.stream.specs.Feed.{fed, Feeds};
+ghost use Rattle.listing.specs.Lists.{Lists};
+ghost use Rattle.compose.specs.Write.{write_request};
+ghost use Rattle.cells.specs.Lent.{lent_number, Updates, post_in, restore_in, Reads, read_in};
+ghost use Rattle.sheet.specs.Sheets.{written, load_in};
+ghost use Rattle.answer.specs.Serve.{serve_data, serve_serial, serve_udp, Serves};
+ghost use Rattle.buslink.specs.Send.{send_in, Sends};
+ghost use Rattle.buslink.specs.Receive.{table_size, is_table, receive_table, Receives, told_in};
+ghost use Rattle.pualirqiq.specs.Calls.{truth, Zeroes, Tells, is_state_sized, cells_size, is_cells_sized, tree_number, handed, HandsBack, Locates};
+
+// How long a stream state is.
+#[unsafe(no_mangle)]
+pub extern "C" fn pq_state_size() -> usize
+    ensures { result ≡ state_length }
+{
+    pualirqiq::pq_state_size()
+}
+
+// A state in which a stream begins: 1 or 0.
+#[unsafe(no_mangle)]
+pub extern "C" fn pq_begin_stream(state: &mut [u8]) -> u8
+    ensures { Zeroes (is_state_sized state.old) state_length state.old result state.new }
+{
+    pualirqiq::pq_begin_stream(state)
+}
+
+// Bytes fed to the stream reader: 1, 8, then what the stream rule gives, or 255 where no frame ended.
+#[unsafe(no_mangle)]
+pub extern "C" fn pq_feed(
+    state: &mut [u8],
+    address: u8,
+    bytes: &[u8],
+    out: &mut [u8],
+    taken: &mut usize,
+    len: &mut usize,
+) -> u8
+    ensures { Feeds (fed address state.old bytes.now (length out.old)) out.old result taken.new len.new state.new out.new }
+{
+    pualirqiq::pq_feed(state, address, bytes, out, taken, len)
+}
+
+// The check of a tree and its cells: 1 or 0.
+#[unsafe(no_mangle)]
+pub extern "C" fn pq_check(tree: &[u8], cells: &[u8]) -> u8
+    ensures { result ≡ lent_number tree.now cells.now }
+{
+    pualirqiq::pq_check(tree, cells)
+}
+
+// The check of a tree alone: 1 or 0.
+#[unsafe(no_mangle)]
+pub extern "C" fn pq_check_tree(tree: &[u8]) -> u8
+    ensures { result ≡ tree_number tree.now }
+{
+    pualirqiq::pq_check_tree(tree)
+}
+
+// How many bytes the cells of a tree take; 0 where it is not sound.
+#[unsafe(no_mangle)]
+pub extern "C" fn pq_cells_size(tree: &[u8]) -> usize
+    ensures { result ≡ cells_size tree.now }
+{
+    pualirqiq::pq_cells_size(tree)
+}
+
+// The listing of a tree: 1, 8 or 0. Its length is told with 8 too.
+#[unsafe(no_mangle)]
+pub extern "C" fn pq_list(tree: &[u8], out: &mut [u8], len: &mut usize) -> u8
+    ensures { Lists tree.now out.old result len.new out.new }
+{
+    pualirqiq::pq_list(tree, out, len)
+}
+
+// The settings on a sheet: 1, 17, 18, 8 or 0. Its length is told with 8 too.
+#[unsafe(no_mangle)]
+pub extern "C" fn pq_write_sheet(tree: &[u8], cells: &[u8], out: &mut [u8], len: &mut usize) -> u8
+    ensures { Fills (written tree.now cells.now) out.old result len.new out.new }
+{
+    pualirqiq::pq_write_sheet(tree, cells, out, len)
+}
+
+// The settings of a sheet stored, all or none: 1, 17, 18 or 0.
+#[unsafe(no_mangle)]
+pub extern "C" fn pq_read_sheet(tree: &[u8], cells: &mut [u8], sheet: &[u8]) -> u8
+    ensures { Updates (load_in tree.now cells.old sheet.now) result cells.new }
+{
+    pualirqiq::pq_read_sheet(tree, cells, sheet)
+}
+
+// Cells that begin: every word 0, none ready: 1 or 0.
+#[unsafe(no_mangle)]
+pub extern "C" fn pq_begin_cells(tree: &[u8], cells: &mut [u8]) -> u8
+    ensures { Zeroes (is_cells_sized tree.now cells.old) (cells_size tree.now) cells.old result cells.new }
+{
+    pualirqiq::pq_begin_cells(tree, cells)
+}
+
+// A reading posted to a live property: 1, 14 or 0.
+#[unsafe(no_mangle)]
+pub extern "C" fn pq_post(tree: &[u8], cells: &mut [u8], place: usize, word: u32, ready: u8) -> u8
+    ensures { Updates (post_in tree.now cells.old place word (truth ready)) result cells.new }
+{
+    pualirqiq::pq_post(tree, cells, place, word, ready)
+}
+
+// Saved cells lent again, every live property marked not ready: 1 or 0.
+#[unsafe(no_mangle)]
+pub extern "C" fn pq_restore_cells(tree: &[u8], cells: &mut [u8]) -> u8
+    ensures { Updates (restore_in tree.now cells.old) result cells.new }
+{
+    pualirqiq::pq_restore_cells(tree, cells)
+}
+
+// The number that the property at a place has to read: 1, 16 (no such property), 12 (no number) or 0.
+#[unsafe(no_mangle)]
+pub extern "C" fn pq_reading(tree: &[u8], cells: &[u8], place: usize, word: &mut u32) -> u8
+    ensures { Reads (read_in tree.now cells.now place) word.old result word.new }
+{
+    pualirqiq::pq_reading(tree, cells, place, word)
+}
+
+// Request data served: 1, 8, 4, 5, 9, 10, 11, 15, 16, 12, 13 or 0.
+#[unsafe(no_mangle)]
+pub extern "C" fn pq_serve_data(
+    tree: &[u8],
+    cells: &mut [u8],
+    host: u8,
+    request: &[u8],
+    out: &mut [u8],
+    len: &mut usize,
+    action: &mut u8,
+    missing: &mut u8,
+) -> u8
+    ensures { Serves (serve_data (length out.old) request.now (truth host) tree.now cells.old) out.old result len.new action.new missing.new cells.new out.new }
+{
+    pualirqiq::pq_serve_data(tree, cells, host, request, out, len, action, missing)
+}
+
+// A serial string served for the box's address: 1, 8, 2, 3, 4, 5, 6, 7, 9, 10, 11, 15, 16, 12, 13 or 0.
+#[unsafe(no_mangle)]
+pub extern "C" fn pq_serve_serial(
+    tree: &[u8],
+    cells: &mut [u8],
+    host: u8,
+    address: u8,
+    string: &[u8],
+    out: &mut [u8],
+    len: &mut usize,
+    action: &mut u8,
+    missing: &mut u8,
+) -> u8
+    ensures { Serves (serve_serial address (length out.old) string.now (truth host) tree.now cells.old) out.old result len.new action.new missing.new cells.new out.new }
+{
+    pualirqiq::pq_serve_serial(
+        tree, cells, host, address, string, out, len, action, missing,
+    )
+}
+
+// A datagram served: 1, 8, 2, 4, 5, 9, 10, 11, 15, 16, 12, 13 or 0.
+#[unsafe(no_mangle)]
+pub extern "C" fn pq_serve_udp(
+    tree: &[u8],
+    cells: &mut [u8],
+    host: u8,
+    datagram: &[u8],
+    out: &mut [u8],
+    len: &mut usize,
+    action: &mut u8,
+    missing: &mut u8,
+) -> u8
+    ensures { Serves (serve_udp (length out.old) datagram.now (truth host) tree.now cells.old) out.old result len.new action.new missing.new cells.new out.new }
+{
+    pualirqiq::pq_serve_udp(tree, cells, host, datagram, out, len, action, missing)
+}
+
+// Data framed for an address: 8, 4, 5 or 0.
+#[unsafe(no_mangle)]
+pub extern "C" fn pq_frame(address: u8, payload: &[u8], out: &mut [u8], len: &mut usize) -> u8
+    ensures { Emits (if_room room_serial (length out.old) (write_frame address payload.now)) out.old result len.new out.new }
+{
+    pualirqiq::pq_frame(address, payload, out, len)
+}
+
+// Data in a datagram: 8, 4, 5 or 0.
+#[unsafe(no_mangle)]
+pub extern "C" fn pq_datagram(payload: &[u8], out: &mut [u8], len: &mut usize) -> u8
+    ensures { Emits (if_room room_udp (length out.old) (write_datagram payload.now)) out.old result len.new out.new }
+{
+    pualirqiq::pq_datagram(payload, out, len)
+}
+
+// A serial string's data, copied: 8, 2, 3, 4, 5, 6, 7 or 0.
+#[unsafe(no_mangle)]
+pub extern "C" fn pq_read_frame(address: u8, string: &[u8], out: &mut [u8], len: &mut usize) -> u8
+    ensures { Emits (if_room room_data (length out.old) (read_frame address string.now)) out.old result len.new out.new }
+{
+    pualirqiq::pq_read_frame(address, string, out, len)
+}
+
+// Where a datagram's data stands in it: 2, 4, 5 or 0.
+#[unsafe(no_mangle)]
+pub extern "C" fn pq_datagram_data(datagram: &[u8], offset: &mut usize, len: &mut usize) -> u8
+    ensures { Locates (read_datagram datagram.now) datagram.now result offset.new len.new }
+{
+    pualirqiq::pq_datagram_data(datagram, offset, len)
+}
+
+// A serial string read as a request: 2, 3, 4, 5, 6, 7, 10, 11 or 0.
+#[unsafe(no_mangle)]
+pub extern "C" fn pq_read_serial(
+    address: u8,
+    string: &[u8],
+    op: &mut u8,
+    path: &mut [u8; 16],
+    path_len: &mut usize,
+    index: &mut u8,
+    value: &mut u32,
+) -> u8
+    ensures { HandsBack (read_serial address string.now) (handed op.old path.old path_len.old index.old value.old) result (handed op.new path.new path_len.new index.new value.new) }
+{
+    pualirqiq::pq_read_serial(address, string, op, path, path_len, index, value)
+}
+
+// A datagram read as a request: 2, 4, 5, 10, 11 or 0.
+#[unsafe(no_mangle)]
+pub extern "C" fn pq_read_udp(
+    datagram: &[u8],
+    op: &mut u8,
+    path: &mut [u8; 16],
+    path_len: &mut usize,
+    index: &mut u8,
+    value: &mut u32,
+) -> u8
+    ensures { HandsBack (read_udp datagram.now) (handed op.old path.old path_len.old index.old value.old) result (handed op.new path.new path_len.new index.new value.new) }
+{
+    pualirqiq::pq_read_udp(datagram, op, path, path_len, index, value)
+}
+
+// A request written out in a frame for an address: 8, 10, 11 or 0.
+#[unsafe(no_mangle)]
+pub extern "C" fn pq_write_serial(
+    address: u8,
+    op: u8,
+    path: &[u8],
+    index: u8,
+    value: u32,
+    out: &mut [u8],
+    len: &mut usize,
+) -> u8
+    ensures { Emits (write_request room_serial (length out.old) (serial_form address) (request_of op path.now index value)) out.old result len.new out.new }
+{
+    pualirqiq::pq_write_serial(address, op, path, index, value, out, len)
+}
+
+// A request written out in a datagram: 8, 10, 11 or 0.
+#[unsafe(no_mangle)]
+pub extern "C" fn pq_write_udp(
+    op: u8,
+    path: &[u8],
+    index: u8,
+    value: u32,
+    out: &mut [u8],
+    len: &mut usize,
+) -> u8
+    ensures { Emits (write_request room_udp (length out.old) udp_form (request_of op path.now index value)) out.old result len.new out.new }
+{
+    pualirqiq::pq_write_udp(op, path, index, value, out, len)
+}
+
+// A station's Buslink frame of a type: 1, 8, 19 or 0. Its data stands at the front of the output.
+#[unsafe(no_mangle)]
+pub extern "C" fn pq_buslink_send(
+    tree: &[u8],
+    cells: &[u8],
+    base: u8,
+    sub: u8,
+    kind: u8,
+    out: &mut [u8],
+    identifier: &mut u32,
+) -> u8
+    ensures { Sends (send_in tree.now cells.now base sub kind (length out.old)) out.old result identifier.new out.new }
+{
+    pualirqiq::pq_buslink_send(tree, cells, base, sub, kind, out, identifier)
+}
+
+// A table of a Buslink receiver's records that begins: 1 or 0.
+#[unsafe(no_mangle)]
+pub extern "C" fn pq_begin_buslink(records: &mut [u8]) -> u8
+    ensures { Zeroes (is_table records.old) table_size records.old result records.new }
+{
+    pualirqiq::pq_begin_buslink(records)
+}
+
+// A Buslink frame received for a station: 1, 19, 20 or 0. Tells which of the indicators that it carried are usable.
+#[unsafe(no_mangle)]
+pub extern "C" fn pq_buslink_receive(
+    records: &mut [u8],
+    base: u8,
+    sub: u8,
+    identifier: u32,
+    payload: &[u8],
+    usable: &mut u16,
+) -> u8
+    ensures { Receives (receive_table base sub identifier payload.now records.old) result usable.new records.new }
+{
+    pualirqiq::pq_buslink_receive(records, base, sub, identifier, payload, usable)
+}
+
+// What a Buslink receiver's records hold of an indicator: 1, 19 or 0.
+#[unsafe(no_mangle)]
+pub extern "C" fn pq_buslink_indicator(
+    records: &[u8],
+    indicator: u8,
+    value: &mut i32,
+    status: &mut u8,
+    format: &mut u8,
+) -> u8
+    ensures { Tells (told_in records.now indicator) value.old status.old format.old result value.new status.new format.new }
+{
+    pualirqiq::pq_buslink_indicator(records, indicator, value, status, format)
+}
