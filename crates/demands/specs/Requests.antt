@@ -1,5 +1,5 @@
 -- 01, demand 3, on requests, over what the exports promise.
-use Rattle.std.specs.Prelude.{ℕ, ◌≤◌, ◌↔◌, ◌≡◌, cond, List, length, take, drop, ltb}
+use Rattle.std.specs.Prelude.{ℕ, ◌≤◌, ◌↔◌, ◌≡◌, cond, List, [], length, take, drop, ltb}
 use Rattle.protocol.specs.Numbers.{done, unknown_command, bad_parameter, op_write_extended}
 use Rattle.protocol.specs.Bytes.{Bytes}
 use Rattle.protocol.specs.Buffer.{Emits}
