@@ -4,8 +4,8 @@ Usage: specs.py            prints the table of README.md: each such file, and ho
        specs.py check      says whether README.md has this table, and whether no promise rests on a file that follows the code
 
 A file of definitions that follow the code step by step says so in its first line. No other file of definitions may name one of
-these, nor take a definition from proofs/, nor may a clause of a public function name one. Each export of pualirqiq_c has the parameters and
-the clauses of the function of pualirqiq that has its name.
+these, nor take a definition from proofs/, nor may a clause of a public function name one. Each export of pualirqiq_c has the
+parameters and the clauses of the function of pualirqiq that has its name.
 """
 import pathlib
 import re
