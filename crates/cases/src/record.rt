@@ -1,5 +1,5 @@
 // The fields of a case, in the form that is described in main.rt.
-ghost use Rattle.std.specs.Prelude.{◌≤◌, length};
+ghost use Rattle.std.specs.Prelude.{◌≡◌, ◌≤◌, length, take};
 
 // Stands for a place or a count where a field cannot be read.
 pub(crate) const BROKEN: usize = usize::MAX;
@@ -71,7 +71,8 @@ fn put_bytes(text: &[u8], out: &mut [u8]) -> usize {
 
 // The bytes of the field that starts at a place.
 pub(crate) fn field(text: &[u8], from: usize, ending: u8, out: &mut [u8]) -> Part
-    ensures { result.len ≤ length out.new }
+    ensures fits { result.len ≤ length out.new }
+    ensures front { result.len ≡ length (take result.len out.new) }
 {
     let end = field_end(text, from, ending);
     if text.len() <= end {
