@@ -8,14 +8,21 @@ use Rattle.protocol.proofs.ListLaws.{part_size}
 use Rattle.tree.specs.Seen.{seen}
 use Rattle.listing.specs.Steps.{path_in}
 use Rattle.listing.proofs.PathLaws.{path_within}
-use Rattle.listing.proofs.WalkLaws.{node_laid, row_within, row_parent, descend_past, descend_here, descend-ends, stands_short, stands_few, child_room, stands_child}
+use Rattle.listing.proofs.WalkLaws.{node_laid, row_within, row_parent, descend-begins, descend_past, descend_here, descend-ends, stands_short, stands_few, child_room, stands_child}
 use Rattle.listing.proofs.walk.+tree_walk.Goals as goal
+
+pub walk_children-overflow_add-j : goal.walk_children-overflow_add-j
+walk_children-overflow_add-j t c = omega (arith, stands_few c.requires, c.requires.within)
 
 pub walk_children-overflow_mul-place : goal.walk_children-overflow_mul-place
 walk_children-overflow_mul-place t c = omega (arith, stands_few c.requires, c.requires.within)
 
 pub walk_children-overflow_add-place : goal.walk_children-overflow_add-place
 walk_children-overflow_add-place t c = omega (arith, stands_few c.requires, c.requires.within)
+
+pub walk_children-loop-j-init : goal.walk_children-loop-j-init
+walk_children-loop-j-init t c =
+    descend-begins c.args.tree.now c.args.k (path_in c.args.path) c.args.out.now c.requires.place
 
 pub walk_children-bounds-tree-place : goal.walk_children-bounds-tree-place
 walk_children-bounds-tree-place t c =
