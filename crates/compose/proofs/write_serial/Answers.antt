@@ -7,6 +7,12 @@ use Rattle.protocol.specs.Request.{request_of, data_of, serial_form}
 use Rattle.protocol.proofs.ListLaws.{part_size}
 use Rattle.compose.proofs.WriteLaws.{refused_alike, put_for, put_for_within, put_front, emits_allowed, emits_serial}
 use Rattle.compose.proofs.write_serial.Goals as goal
+use Rattle.compose.proofs.write_serial.Goals.{Else-put-ne-DONE}
+
+within : (c : Else-put-ne-DONE) → c.data_for-put.result.len ≤ length c.data_for-put.new.payload
+within c =
+    put_for_within (request_of c.args.op c.args.path.now c.args.index.0 c.args.value)
+    (put_for room_serial (length c.args.out.now) (request_of c.args.op c.args.path.now c.args.index.0 c.args.value) c.data_for-put.ensures c.if-put-ne-DONE.false) (omega arith)
 
 pub returns-then-put-ne-DONE : goal.returns-then-put-ne-DONE
 returns-then-put-ne-DONE c =
@@ -14,18 +20,11 @@ returns-then-put-ne-DONE c =
     c.args.out.now c.if-put-ne-DONE.true
 
 pub slice_bounds-payload-end : goal.slice_bounds-payload-end
-slice_bounds-payload-end c =
-    let within : c.data_for-put.result.len ≤ length c.data_for-put.new.payload =
-    put_for_within (request_of c.args.op c.args.path.now c.args.index.0 c.args.value)
-    (put_for room_serial (length c.args.out.now) (request_of c.args.op c.args.path.now c.args.index.0 c.args.value) c.data_for-put.ensures c.if-put-ne-DONE.false) (omega arith) in
-    within
+slice_bounds-payload-end c = within (goal.at.slice_bounds-payload-end c).Else-put-ne-DONE
 
 pub slice_bounds-write_frame-end : goal.slice_bounds-write_frame-end
 slice_bounds-write_frame-end c =
-    let within : c.data_for-put.result.len ≤ length c.data_for-put.new.payload =
-    put_for_within (request_of c.args.op c.args.path.now c.args.index.0 c.args.value)
-    (put_for room_serial (length c.args.out.now) (request_of c.args.op c.args.path.now c.args.index.0 c.args.value) c.data_for-put.ensures c.if-put-ne-DONE.false) (omega arith) in
-    part_size c.data_for-put.result.len c.data_for-put.new.payload within
+    part_size c.data_for-put.result.len c.data_for-put.new.payload (within (goal.at.slice_bounds-write_frame-end c).Else-put-ne-DONE)
 
 pub returns : goal.returns
 returns c =

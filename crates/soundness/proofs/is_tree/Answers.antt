@@ -14,6 +14,26 @@ use Rattle.soundness.specs.Check.{counts_fit, parents_in, parents_fit, node_end,
 use Rattle.soundness.proofs.StepLaws.{counts, uncounted, names_within, parentless, nameless, labelless, all_read}
 use Rattle.soundness.proofs.CheckLaws.{checked_exact}
 use Rattle.soundness.proofs.is_tree.Goals as goal
+use Rattle.soundness.proofs.is_tree.Goals.{After-names_end, Else-not-counts_fit, Else-not-parents_sound}
+
+-- The tests passed.
+counts-hold : (c : Else-not-counts_fit) → counts_fit c.args.tree.now ≡ true
+counts-hold c =
+    sym c.counts_fit.ensures ∙ c.if-not-counts_fit.false
+
+parents-hold : (c : Else-not-parents_sound) → let bs = c.args.tree.now in
+    (leb (node_count bs) max_nodes && parents_fit (parents_in bs)) ≡ true
+parents-hold c =
+    sym c.parents_sound.ensures ∙ c.if-not-parents_sound.false
+
+names-is : (c : After-names_end) → let bs = c.args.tree.now in
+    c.names_end.result
+    ≡ found_of (records_end node_size (node_end bs) (node_count bs) (drop 2 bs) (texts_start (node_count bs) (property_count bs)))
+names-is c =
+    let start_is : let bs = c.args.tree.now in c.properties_start.result + c.wide.result * property_size ≡ texts_start (node_count bs) (property_count bs) =
+    ap₂ (λ m n. m + n * property_size) c.properties_start.ensures c.wide.ensures in
+    let bs = c.args.tree.now in
+    c.names_end.ensures ∙ ap (λ n. found_of (records_end node_size (node_end bs) (node_count bs) (drop 2 bs) n)) start_is
 
 pub returns-then-not-counts_fit : goal.returns-then-not-counts_fit
 returns-then-not-counts_fit c =
@@ -26,17 +46,12 @@ pub returns-then-not-parents_sound : goal.returns-then-not-parents_sound
 returns-then-not-parents_sound c =
     let exact : (t : Bool) → checked c.args.tree.now ≡ t → t ≡ is_tree c.args.tree.now =
     λ t e. sym e ∙ checked_exact c.args.tree.now (λ i. omega (arith, c.type_inv.tree i)) in
-    let counts-hold : counts_fit c.args.tree.now ≡ true =
-    sym c.counts_fit.ensures ∙ c.if-not-counts_fit.false in
     exact _
-    (parentless c.args.tree.now counts-hold
+    (parentless c.args.tree.now (counts-hold (goal.at.returns-then-not-parents_sound c).Else-not-counts_fit)
     (sym c.parents_sound.ensures ∙ c.if-not-parents_sound.true))
 
 pub bounds-tree-1 : goal.bounds-tree-1
-bounds-tree-1 c =
-    let counts-hold : counts_fit c.args.tree.now ≡ true =
-    sym c.counts_fit.ensures ∙ c.if-not-counts_fit.false in
-    (counts c.args.tree.now counts-hold).two
+bounds-tree-1 c = (counts c.args.tree.now (counts-hold (goal.at.bounds-tree-1 c).Else-not-counts_fit)).two
 
 pub overflow_mul-start : goal.overflow_mul-start
 overflow_mul-start c = omega (arith, c.wide.ensures, c.type_inv.tree 1)
@@ -48,71 +63,35 @@ overflow_add-start c =
 
 pub names_end-requires : goal.names_end-requires
 names_end-requires c =
-    let counts-hold : counts_fit c.args.tree.now ≡ true =
-    sym c.counts_fit.ensures ∙ c.if-not-counts_fit.false in
     let start_is : let bs = c.args.tree.now in c.properties_start.result + c.wide.result * property_size ≡ texts_start (node_count bs) (property_count bs) =
     ap₂ (λ m n. m + n * property_size) c.properties_start.ensures c.wide.ensures in
-    omega (arith, start_is, (counts c.args.tree.now counts-hold).records)
+    omega (arith, start_is, (counts c.args.tree.now (counts-hold (goal.at.names_end-requires c).Else-not-counts_fit)).records)
 
 pub returns-in_default : goal.returns-in_default
 returns-in_default c =
     let exact : (t : Bool) → checked c.args.tree.now ≡ t → t ≡ is_tree c.args.tree.now =
     λ t e. sym e ∙ checked_exact c.args.tree.now (λ i. omega (arith, c.type_inv.tree i)) in
-    let counts-hold : counts_fit c.args.tree.now ≡ true =
-    sym c.counts_fit.ensures ∙ c.if-not-counts_fit.false in
-    let parents-hold : let bs = c.args.tree.now in (leb (node_count bs) max_nodes && parents_fit (parents_in bs)) ≡ true =
-    sym c.parents_sound.ensures ∙ c.if-not-parents_sound.false in
-    let start_is : let bs = c.args.tree.now in c.properties_start.result + c.wide.result * property_size ≡ texts_start (node_count bs) (property_count bs) =
-    ap₂ (λ m n. m + n * property_size) c.properties_start.ensures c.wide.ensures in
-    let names-is : let bs = c.args.tree.now in c.names_end.result ≡ found_of (records_end node_size (node_end bs) (node_count bs) (drop 2 bs) (texts_start (node_count bs) (property_count bs))) =
-    let bs = c.args.tree.now in
-    c.names_end.ensures ∙ ap (λ n. found_of (records_end node_size (node_end bs) (node_count bs) (drop 2 bs) n)) start_is in
     exact _
-    (nameless c.args.tree.now counts-hold parents-hold (sym c.in_default.is ∙ names-is))
+    (nameless c.args.tree.now (counts-hold (goal.at.returns-in_default c).Else-not-counts_fit) (parents-hold (goal.at.returns-in_default c).Else-not-parents_sound) (sym c.in_default.is ∙ names-is (goal.at.returns-in_default c).After-names_end))
 
 pub labels_end-requires : goal.labels_end-requires
 labels_end-requires c =
-    let counts-hold : counts_fit c.args.tree.now ≡ true =
-    sym c.counts_fit.ensures ∙ c.if-not-counts_fit.false in
-    let start_is : let bs = c.args.tree.now in c.properties_start.result + c.wide.result * property_size ≡ texts_start (node_count bs) (property_count bs) =
-    ap₂ (λ m n. m + n * property_size) c.properties_start.ensures c.wide.ensures in
-    let names-is : let bs = c.args.tree.now in c.names_end.result ≡ found_of (records_end node_size (node_end bs) (node_count bs) (drop 2 bs) (texts_start (node_count bs) (property_count bs))) =
-    let bs = c.args.tree.now in
-    c.names_end.ensures ∙ ap (λ n. found_of (records_end node_size (node_end bs) (node_count bs) (drop 2 bs) n)) start_is in
-    names_within c.args.tree.now counts-hold (sym c.in-At.is ∙ names-is)
+    names_within c.args.tree.now (counts-hold (goal.at.labels_end-requires c).Else-not-counts_fit) (sym c.in-At.is ∙ names-is (goal.at.labels_end-requires c).After-names_end)
 
 pub returns-in_default-labels_end : goal.returns-in_default-labels_end
 returns-in_default-labels_end c =
     let exact : (t : Bool) → checked c.args.tree.now ≡ t → t ≡ is_tree c.args.tree.now =
     λ t e. sym e ∙ checked_exact c.args.tree.now (λ i. omega (arith, c.type_inv.tree i)) in
-    let counts-hold : counts_fit c.args.tree.now ≡ true =
-    sym c.counts_fit.ensures ∙ c.if-not-counts_fit.false in
-    let parents-hold : let bs = c.args.tree.now in (leb (node_count bs) max_nodes && parents_fit (parents_in bs)) ≡ true =
-    sym c.parents_sound.ensures ∙ c.if-not-parents_sound.false in
-    let start_is : let bs = c.args.tree.now in c.properties_start.result + c.wide.result * property_size ≡ texts_start (node_count bs) (property_count bs) =
-    ap₂ (λ m n. m + n * property_size) c.properties_start.ensures c.wide.ensures in
-    let names-is : let bs = c.args.tree.now in c.names_end.result ≡ found_of (records_end node_size (node_end bs) (node_count bs) (drop 2 bs) (texts_start (node_count bs) (property_count bs))) =
-    let bs = c.args.tree.now in
-    c.names_end.ensures ∙ ap (λ n. found_of (records_end node_size (node_end bs) (node_count bs) (drop 2 bs) n)) start_is in
     exact _
-    (labelless c.args.tree.now counts-hold parents-hold
-    (sym c.in-At.is ∙ names-is)
+    (labelless c.args.tree.now (counts-hold (goal.at.returns-in_default-labels_end c).Else-not-counts_fit) (parents-hold (goal.at.returns-in_default-labels_end c).Else-not-parents_sound)
+    (sym c.in-At.is ∙ names-is (goal.at.returns-in_default-labels_end c).After-names_end)
     (sym c.in_default-labels_end.is ∙ c.labels_end.ensures))
 
 pub returns : goal.returns
 returns c =
     let exact : (t : Bool) → checked c.args.tree.now ≡ t → t ≡ is_tree c.args.tree.now =
     λ t e. sym e ∙ checked_exact c.args.tree.now (λ i. omega (arith, c.type_inv.tree i)) in
-    let counts-hold : counts_fit c.args.tree.now ≡ true =
-    sym c.counts_fit.ensures ∙ c.if-not-counts_fit.false in
-    let parents-hold : let bs = c.args.tree.now in (leb (node_count bs) max_nodes && parents_fit (parents_in bs)) ≡ true =
-    sym c.parents_sound.ensures ∙ c.if-not-parents_sound.false in
-    let start_is : let bs = c.args.tree.now in c.properties_start.result + c.wide.result * property_size ≡ texts_start (node_count bs) (property_count bs) =
-    ap₂ (λ m n. m + n * property_size) c.properties_start.ensures c.wide.ensures in
-    let names-is : let bs = c.args.tree.now in c.names_end.result ≡ found_of (records_end node_size (node_end bs) (node_count bs) (drop 2 bs) (texts_start (node_count bs) (property_count bs))) =
-    let bs = c.args.tree.now in
-    c.names_end.ensures ∙ ap (λ n. found_of (records_end node_size (node_end bs) (node_count bs) (drop 2 bs) n)) start_is in
     exact _
-    (all_read c.args.tree.now counts-hold parents-hold
-    (sym c.in-At.is ∙ names-is)
+    (all_read c.args.tree.now (counts-hold (goal.at.returns c).Else-not-counts_fit) (parents-hold (goal.at.returns c).Else-not-parents_sound)
+    (sym c.in-At.is ∙ names-is (goal.at.returns c).After-names_end)
     (sym c.in-At-labels_end.is ∙ c.labels_end.ensures))

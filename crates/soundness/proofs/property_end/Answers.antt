@@ -12,6 +12,14 @@ use Rattle.soundness.specs.Check.{texts_end_in}
 use Rattle.soundness.proofs.TextLaws.{texts-within}
 use Rattle.soundness.proofs.StepLaws.{property_unfit, property_elsewhere, property_unnamed, property_ends}
 use Rattle.soundness.proofs.property_end.Goals as goal
+use Rattle.soundness.proofs.property_end.Goals.{After-half_at}
+
+-- Where the record says that its texts begin.
+half_is : (c : After-half_at) → let args = c.args in
+    c.half_at.result ≡ half_at (properties_start (node_count args.tree.now) + args.k * property_size + 14) args.tree.now
+half_is c =
+    c.half_at.ensures
+    ∙ ap (λ n. half_at (n + c.args.k * property_size + 14) c.args.tree.now) c.properties_start.ensures
 
 pub returns-then-not-fields_fit : goal.returns-then-not-fields_fit
 returns-then-not-fields_fit c =
@@ -34,22 +42,16 @@ overflow_add-place-2 c =
 
 pub returns-then-half_at-at : goal.returns-then-half_at-at
 returns-then-half_at-at c =
-    let half_is : let args = c.args in c.half_at.result ≡ half_at (properties_start (node_count args.tree.now) + args.k * property_size + 14) args.tree.now =
-    c.half_at.ensures
-    ∙ ap (λ n. half_at (n + c.args.k * property_size + 14) c.args.tree.now) c.properties_start.ensures in
     property_elsewhere c.args.tree.now c.args.k c.args.at
     (c.wide.ensures ∙ c.byte_at.ensures) c.requires.0 c.read_fields-f.ensures
-    (differ half_is refl c.if-half_at-at.true)
+    (differ (half_is (goal.at.returns-then-half_at-at c).After-half_at) refl c.if-half_at-at.true)
 
 pub returns-in_default : goal.returns-in_default
 returns-in_default c =
-    let half_is : let args = c.args in c.half_at.result ≡ half_at (properties_start (node_count args.tree.now) + args.k * property_size + 14) args.tree.now =
-    c.half_at.ensures
-    ∙ ap (λ n. half_at (n + c.args.k * property_size + 14) c.args.tree.now) c.properties_start.ensures in
     property_unnamed c.args.tree.now c.args.k c.args.at
     (c.wide.ensures ∙ c.byte_at.ensures) c.requires.0 c.read_fields-f.ensures
     (sym c.fields_fit.ensures ∙ c.if-not-fields_fit.false)
-    (sym half_is ∙ c.if-half_at-at.false)
+    (sym (half_is (goal.at.returns-in_default c).After-half_at) ∙ c.if-half_at-at.false)
     (sym c.in_default.is ∙ c.texts_end.ensures)
 
 pub texts_end-requires-2 : goal.texts_end-requires-2
@@ -60,15 +62,12 @@ texts_end-requires-2 c =
 
 pub returns : goal.returns
 returns c =
-    let half_is : let args = c.args in c.half_at.result ≡ half_at (properties_start (node_count args.tree.now) + args.k * property_size + 14) args.tree.now =
-    c.half_at.ensures
-    ∙ ap (λ n. half_at (n + c.args.k * property_size + 14) c.args.tree.now) c.properties_start.ensures in
     let ended : c.texts_end-2.result
     ≡ found_of (texts_end_in c.args.tree.now max_texts c.option_count.result c.in-At.mid) =
     c.texts_end-2.ensures in
     property_ends c.args.tree.now c.args.k c.args.at
     (c.wide.ensures ∙ c.byte_at.ensures) c.requires.0 c.read_fields-f.ensures
     (sym c.fields_fit.ensures ∙ c.if-not-fields_fit.false)
-    (sym half_is ∙ c.if-half_at-at.false)
+    (sym (half_is (goal.at.returns c).After-half_at) ∙ c.if-half_at-at.false)
     (sym c.in-At.is ∙ c.texts_end.ensures)
     (ended ∙ ap (λ n. found_of (texts_end_in c.args.tree.now max_texts n c.in-At.mid)) c.option_count.ensures)

@@ -10,6 +10,12 @@ use Rattle.answer.specs.Steps.{request_in}
 use Rattle.answer.proofs.ReplyLaws.{put_record_reply}
 use Rattle.answer.proofs.AnswerLaws.{place-fits, record-short, replied, answers_as, is_record, is_reading, is_write}
 use Rattle.answer.proofs.answer.on_property.Goals as goal
+use Rattle.answer.proofs.answer.on_property.Goals.{Else-asked-eq-OP_READ}
+
+-- Behind both tests the op is 4 or 5.
+above : (c : Else-asked-eq-OP_READ) → op_read < c.args.asked.op
+above c =
+    omega (arith, c.if-asked-eq-OP_RECORD.false, c.if-asked-eq-OP_READ.false, c.requires.1.1.1.0)
 
 pub returns-then-asked-eq-OP_RECORD : goal.returns-then-asked-eq-OP_RECORD
 returns-then-asked-eq-OP_RECORD c =
@@ -29,25 +35,21 @@ returns-then-asked-eq-OP_READ c =
     c.on_read.ensures
 
 pub on_write-requires : goal.on_write-requires
-on_write-requires c =
-    let above : op_read < c.args.asked.op =
-    omega (arith, c.if-asked-eq-OP_RECORD.false, c.if-asked-eq-OP_READ.false, c.requires.1.1.1.0) in (
-      c.requires.0,
+on_write-requires c = (
+  c.requires.0,
+  (
+    c.requires.1.0,
+    (
+      c.requires.1.1.0,
       (
-        c.requires.1.0,
-        (
-          c.requires.1.1.0,
-          (
-            above,
-            place-fits c.args.tree.now c.args.cells.now c.requires.1.0 c.args.place c.requires.1.1.1.1,
-          ),
-        ),
+        above (goal.at.on_write-requires c).Else-asked-eq-OP_READ,
+        place-fits c.args.tree.now c.args.cells.now c.requires.1.0 c.args.place c.requires.1.1.1.1,
       ),
-    )
+    ),
+  ),
+)
 
 pub returns : goal.returns
 returns c =
-    let above : op_read < c.args.asked.op =
-    omega (arith, c.if-asked-eq-OP_RECORD.false, c.if-asked-eq-OP_READ.false, c.requires.1.1.1.0) in
-    answers_as (is_write (seen c.args.tree.now) (cells_in c.args.cells.now) (request_in c.args.asked) c.args.place above)
+    answers_as (is_write (seen c.args.tree.now) (cells_in c.args.cells.now) (request_in c.args.asked) c.args.place (above (goal.at.returns c).Else-asked-eq-OP_READ))
     c.on_write.ensures

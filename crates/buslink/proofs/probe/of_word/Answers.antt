@@ -7,6 +7,11 @@ use Rattle.buslink.specs.Send.{scaled, fits}
 use Rattle.buslink.specs.Steps.{sized}
 use Rattle.buslink.proofs.SendLaws.{below_some, sent_beyond, sent_value, fits_small, word-sized}
 use Rattle.buslink.proofs.probe.of_word.Goals as goal
+use Rattle.buslink.proofs.probe.of_word.Goals.{Else-not-value_fits}
+
+does-fit : (c : Else-not-value_fits) → fits (scaled c.args.code (sized c.is_below-below.result c.turned-size.result)) ≡ true
+does-fit c =
+    sym c.value_fits.ensures ∙ c.if-not-value_fits.false
 
 pub turned-size-requires : goal.turned-size-requires
 turned-size-requires c = below_some c.args.signed c.args.w c.is_below-below.ensures
@@ -17,10 +22,7 @@ returns-then-not-value_fits c =
     (sym c.value_fits.ensures ∙ c.if-not-value_fits.true)
 
 pub value_size-requires : goal.value_size-requires
-value_size-requires c =
-    let does-fit : fits (scaled c.args.code (sized c.is_below-below.result c.turned-size.result)) ≡ true =
-    sym c.value_fits.ensures ∙ c.if-not-value_fits.false in
-    omega (arith, fits_small _ _ _ does-fit)
+value_size-requires c = omega (arith, fits_small _ _ _ (does-fit (goal.at.value_size-requires c).Else-not-value_fits))
 
 pub turned-requires : goal.turned-requires
 turned-requires c =
@@ -30,7 +32,5 @@ turned-requires c =
 
 pub returns : goal.returns
 returns c =
-    let does-fit : fits (scaled c.args.code (sized c.is_below-below.result c.turned-size.result)) ≡ true =
-    sym c.value_fits.ensures ∙ c.if-not-value_fits.false in
     sent_value c.args.code c.args.signed c.args.w c.is_below-below.ensures c.turned-size.ensures
-    does-fit c.value_size.ensures c.turned.ensures
+    (does-fit (goal.at.returns c).Else-not-value_fits) c.value_size.ensures c.turned.ensures

@@ -14,36 +14,34 @@ use Rattle.console.specs.Bench.{bench_address, served}
 use Rattle.console.specs.Steps.{ServesLines}
 use Rattle.console.proofs.StepLaws.{front_within, lined}
 use Rattle.console.proofs.bench.serve_lines.Goals as goal
+use Rattle.console.proofs.bench.serve_lines.Goals.{After-serve_data-told, After-write_frame-framed}
+
+-- The reply lies in its array, and its frame in its own.
+reply_within : (c : After-serve_data-told) → c.serve_data-told.result.len ≤ length c.serve_data-told.new.out
+reply_within c =
+    front_within _ _ c.serve_data-told.ensures.len c.serve_data-told.ensures.bytes
+
+wire-within : (c : After-write_frame-framed) → c.write_frame-framed.result.len ≤ length c.write_frame-framed.new.out
+wire-within c =
+    front_within _ _ c.write_frame-framed.ensures.len c.write_frame-framed.ensures.bytes
 
 pub slice_bounds-reply-end : goal.slice_bounds-reply-end
-slice_bounds-reply-end c =
-    let reply_within : c.serve_data-told.result.len ≤ length c.serve_data-told.new.out =
-    front_within _ _ c.serve_data-told.ensures.len c.serve_data-told.ensures.bytes in
-    reply_within
+slice_bounds-reply-end c = reply_within (goal.at.slice_bounds-reply-end c).After-serve_data-told
 
 pub slice_bounds-write_frame-end : goal.slice_bounds-write_frame-end
 slice_bounds-write_frame-end c =
-    let reply_within : c.serve_data-told.result.len ≤ length c.serve_data-told.new.out =
-    front_within _ _ c.serve_data-told.ensures.len c.serve_data-told.ensures.bytes in
-    part_size c.serve_data-told.result.len c.serve_data-told.new.out reply_within
+    part_size c.serve_data-told.result.len c.serve_data-told.new.out (reply_within (goal.at.slice_bounds-write_frame-end c).After-serve_data-told)
 
 pub slice_bounds-wire-end : goal.slice_bounds-wire-end
-slice_bounds-wire-end c =
-    let wire-within : c.write_frame-framed.result.len ≤ length c.write_frame-framed.new.out =
-    front_within _ _ c.write_frame-framed.ensures.len c.write_frame-framed.ensures.bytes in
-    wire-within
+slice_bounds-wire-end c = wire-within (goal.at.slice_bounds-wire-end c).After-write_frame-framed
 
 pub slice_bounds-put_lines-end : goal.slice_bounds-put_lines-end
 slice_bounds-put_lines-end c =
-    let wire-within : c.write_frame-framed.result.len ≤ length c.write_frame-framed.new.out =
-    front_within _ _ c.write_frame-framed.ensures.len c.write_frame-framed.ensures.bytes in
-    part_size c.write_frame-framed.result.len c.write_frame-framed.new.out wire-within
+    part_size c.write_frame-framed.result.len c.write_frame-framed.new.out (wire-within (goal.at.slice_bounds-put_lines-end c).After-write_frame-framed)
 
 pub put_lines-requires : goal.put_lines-requires
 put_lines-requires c =
-    let wire-within : c.write_frame-framed.result.len ≤ length c.write_frame-framed.new.out =
-    front_within _ _ c.write_frame-framed.ensures.len c.write_frame-framed.ensures.bytes in
-    omega (arith, c.requires, wire-within, length-take-le c.write_frame-framed.result.len c.write_frame-framed.new.out wire-within)
+    omega (arith, c.requires, wire-within (goal.at.put_lines-requires c).After-write_frame-framed, length-take-le c.write_frame-framed.result.len c.write_frame-framed.new.out (wire-within (goal.at.put_lines-requires c).After-write_frame-framed))
 
 pub returns : goal.returns
 unfolding served

@@ -2,6 +2,12 @@
 use Rattle.std.proofs.Common.{◌+◌, ◌<◌, length, arith}
 use Rattle.frame.proofs.ReadLaws.{lone_at, alone_at, doubled_at, other_at, end_at, early_at}
 use Rattle.frame.proofs.read.piece_at.Goals as goal
+use Rattle.frame.proofs.read.piece_at.Goals.{Else-left-lt2}
+
+-- Behind the second test two bytes are left.
+two : (c : Else-left-lt2) → c.args.i + 1 < length c.args.s.now
+two c =
+    omega (arith, c.if-left-lt2.false)
 
 pub returns-then-b-ne-DLE : goal.returns-then-b-ne-DLE
 returns-then-b-ne-DLE c = lone_at c.args.s.now c.args.i c.requires c.if-b-ne-DLE.true
@@ -11,27 +17,19 @@ returns-then-left-lt2 c = alone_at c.args.s.now c.args.i c.requires (omega (arit
 
 pub returns-then-p-eq-DLE : goal.returns-then-p-eq-DLE
 returns-then-p-eq-DLE c =
-    let two : c.args.i + 1 < length c.args.s.now =
-    omega (arith, c.if-left-lt2.false) in
-    doubled_at c.args.s.now c.args.i two c.if-b-ne-DLE.false c.if-p-eq-DLE.true
+    doubled_at c.args.s.now c.args.i (two (goal.at.returns-then-p-eq-DLE c).Else-left-lt2) c.if-b-ne-DLE.false c.if-p-eq-DLE.true
 
 pub returns-then-p-ne-ETX : goal.returns-then-p-ne-ETX
 returns-then-p-ne-ETX c =
-    let two : c.args.i + 1 < length c.args.s.now =
-    omega (arith, c.if-left-lt2.false) in
-    other_at c.args.s.now c.args.i two c.if-b-ne-DLE.false
+    other_at c.args.s.now c.args.i (two (goal.at.returns-then-p-ne-ETX c).Else-left-lt2) c.if-b-ne-DLE.false
     c.if-p-eq-DLE.false c.if-p-ne-ETX.true
 
 pub returns-then-left-eq2 : goal.returns-then-left-eq2
 returns-then-left-eq2 c =
-    let two : c.args.i + 1 < length c.args.s.now =
-    omega (arith, c.if-left-lt2.false) in
-    end_at c.args.s.now c.args.i two c.if-b-ne-DLE.false
+    end_at c.args.s.now c.args.i (two (goal.at.returns-then-left-eq2 c).Else-left-lt2) c.if-b-ne-DLE.false
     c.if-p-eq-DLE.false c.if-p-ne-ETX.false c.if-left-eq2.true
 
 pub returns : goal.returns
 returns c =
-    let two : c.args.i + 1 < length c.args.s.now =
-    omega (arith, c.if-left-lt2.false) in
-    early_at c.args.s.now c.args.i two c.if-b-ne-DLE.false
+    early_at c.args.s.now c.args.i (two (goal.at.returns c).Else-left-lt2) c.if-b-ne-DLE.false
     c.if-p-eq-DLE.false c.if-p-ne-ETX.false c.if-left-eq2.false

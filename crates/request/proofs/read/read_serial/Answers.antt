@@ -5,22 +5,23 @@ use lib.ListN.{length}
 use Rattle.protocol.proofs.ListLaws.{part_size}
 use Rattle.request.proofs.ReadLaws.{serial_within, serial_refused, serial_read}
 use Rattle.request.proofs.read.read_serial.Goals as goal
+use Rattle.request.proofs.read.read_serial.Goals.{After-read_front-read}
+
+-- What was read lies within the array.
+within : (c : After-read_front-read) → c.read_front-read.result.len ≤ length c.read_front-read.new.out
+within c =
+    serial_within c.args.address c.args.s.now c.read_front-read.ensures
 
 pub returns-then-number-ne-DONE : goal.returns-then-number-ne-DONE
 returns-then-number-ne-DONE c =
     serial_refused c.args.address c.args.s.now c.read_front-read.ensures c.if-number-ne-DONE.true c.refusal.ensures
 
 pub slice_bounds-front-end : goal.slice_bounds-front-end
-slice_bounds-front-end c =
-    let within : c.read_front-read.result.len ≤ length c.read_front-read.new.out =
-    serial_within c.args.address c.args.s.now c.read_front-read.ensures in
-    within
+slice_bounds-front-end c = within (goal.at.slice_bounds-front-end c).After-read_front-read
 
 pub slice_bounds-read_data-end : goal.slice_bounds-read_data-end
 slice_bounds-read_data-end c =
-    let within : c.read_front-read.result.len ≤ length c.read_front-read.new.out =
-    serial_within c.args.address c.args.s.now c.read_front-read.ensures in
-    part_size c.read_front-read.result.len c.read_front-read.new.out within
+    part_size c.read_front-read.result.len c.read_front-read.new.out (within (goal.at.slice_bounds-read_data-end c).After-read_front-read)
 
 pub returns : goal.returns
 returns c =

@@ -5,6 +5,12 @@ use lib.ListN.{length}
 use Rattle.tree.specs.Seen.{seen}
 use Rattle.sheet.proofs.LabelLaws.{differing_begins, differing_fails, differing_on, differing_ends}
 use Rattle.sheet.proofs.label.differs_behind.Goals as goal
+use Rattle.sheet.proofs.label.differs_behind.Goals.{In-loop-j}
+
+-- There is a property.
+listed : (c : In-loop-j) → c.loop-j.j < length (seen c.args.tree.now).properties
+listed c =
+    omega (arith, c.loop-j-test.true, c.property_count-count.ensures)
 
 pub loop-j-init : goal.loop-j-init
 loop-j-init c =
@@ -13,26 +19,19 @@ loop-j-init c =
 
 pub returns-then-is_label : goal.returns-then-is_label
 returns-then-is_label c =
-    let listed : c.loop-j.j < length (seen c.args.tree.now).properties =
-    omega (arith, c.loop-j-test.true, c.property_count-count.ensures) in
     let args = c.args in
-    differing_fails (seen args.tree.now) args.s.now args.k c.loop-j.invariant listed c.is_label.ensures c.if-is_label.true
+    differing_fails (seen args.tree.now) args.s.now args.k c.loop-j.invariant (listed (goal.at.returns-then-is_label c).In-loop-j) c.is_label.ensures c.if-is_label.true
 
 pub overflow_add-j : goal.overflow_add-j
-overflow_add-j c =
-    let listed : c.loop-j.j < length (seen c.args.tree.now).properties =
-    omega (arith, c.loop-j-test.true, c.property_count-count.ensures) in
-    omega (arith, listed)
+overflow_add-j c = omega (arith, listed (goal.at.overflow_add-j c).In-loop-j)
 
 pub loop-j-smaller : goal.loop-j-smaller
 loop-j-smaller c = omega (arith, c.next-j-in-loop-j.ensures.behind)
 
 pub loop-j-preserved : goal.loop-j-preserved
 loop-j-preserved c =
-    let listed : c.loop-j.j < length (seen c.args.tree.now).properties =
-    omega (arith, c.loop-j-test.true, c.property_count-count.ensures) in
     let args = c.args in
-    differing_on (seen args.tree.now) args.s.now args.k c.loop-j.invariant listed c.is_label.ensures c.if-is_label.false
+    differing_on (seen args.tree.now) args.s.now args.k c.loop-j.invariant (listed (goal.at.loop-j-preserved c).In-loop-j) c.is_label.ensures c.if-is_label.false
     c.next-j-in-loop-j.ensures
 
 pub returns : goal.returns

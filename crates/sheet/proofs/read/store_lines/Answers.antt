@@ -9,6 +9,20 @@ use Rattle.sheet.specs.Steps.{LineIs}
 use Rattle.sheet.proofs.ReadLaws.{rest_lent}
 use Rattle.sheet.proofs.LinesLaws.{store_begins, stored-ends, store_on, store_ends}
 use Rattle.sheet.proofs.read.store_lines.Goals as goal
+use Rattle.sheet.proofs.read.store_lines.Goals.{After-read_line-line, In-loop-k}
+
+-- There is a property, and its line.
+listed : (c : In-loop-k) → c.loop-k.k < length (seen c.args.tree.now).properties
+listed c =
+    omega (arith, c.loop-k-test.true, c.property_count-count.ensures)
+
+line_of : (c : After-read_line-line) → let args = c.args in
+    LineIs (property_in (seen args.tree.now) c.loop-k.k) (drop c.loop-k.at args.sheet.now) c.read_line-line.result
+line_of c =
+    let args = c.args in
+    subst (λ xs. LineIs (property_in (seen args.tree.now) c.loop-k.k) xs c.read_line-line.result)
+    (rest_lent args.sheet.now refl)
+    c.read_line-line.ensures
 
 pub loop-k-init : goal.loop-k-init
 loop-k-init c =
@@ -25,18 +39,11 @@ pub overflow_add-at : goal.overflow_add-at
 overflow_add-at c =
     let short : length c.args.sheet.now < 2 ^ 63 =
     omega arith in
-    let listed : c.loop-k.k < length (seen c.args.tree.now).properties =
-    omega (arith, c.loop-k-test.true, c.property_count-count.ensures) in
-    let line_of : let args = c.args in LineIs (property_in (seen args.tree.now) c.loop-k.k) (drop c.loop-k.at args.sheet.now) c.read_line-line.result =
-    let args = c.args in
-    subst (λ xs. LineIs (property_in (seen args.tree.now) c.loop-k.k) xs c.read_line-line.result)
-    (rest_lent args.sheet.now refl)
-    c.read_line-line.ensures in
     let args = c.args in
     omega (
       arith,
       short,
-      stored-ends (seen args.tree.now) args.sheet.now args.cells.now c.loop-k.invariant listed line_of,
+      stored-ends (seen args.tree.now) args.sheet.now args.cells.now c.loop-k.invariant (listed (goal.at.overflow_add-at c).In-loop-k) (line_of (goal.at.overflow_add-at c).After-read_line-line),
     )
 
 pub loop-k-smaller : goal.loop-k-smaller
@@ -44,15 +51,8 @@ loop-k-smaller c = omega (arith, c.next-k-in-loop-k.ensures.behind)
 
 pub loop-k-preserved : goal.loop-k-preserved
 loop-k-preserved c =
-    let listed : c.loop-k.k < length (seen c.args.tree.now).properties =
-    omega (arith, c.loop-k-test.true, c.property_count-count.ensures) in
-    let line_of : let args = c.args in LineIs (property_in (seen args.tree.now) c.loop-k.k) (drop c.loop-k.at args.sheet.now) c.read_line-line.result =
     let args = c.args in
-    subst (λ xs. LineIs (property_in (seen args.tree.now) c.loop-k.k) xs c.read_line-line.result)
-    (rest_lent args.sheet.now refl)
-    c.read_line-line.ensures in
-    let args = c.args in
-    store_on (seen args.tree.now) args.sheet.now args.cells.now c.loop-k.invariant listed line_of
+    store_on (seen args.tree.now) args.sheet.now args.cells.now c.loop-k.invariant (listed (goal.at.loop-k-preserved c).In-loop-k) (line_of (goal.at.loop-k-preserved c).After-read_line-line)
     c.store_word.ensures c.next-k-in-loop-k.ensures
 
 pub returns : goal.returns

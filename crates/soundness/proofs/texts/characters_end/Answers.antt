@@ -4,6 +4,12 @@ use native.Mathlib.Omega.{arith}
 use mathlib.Core.Path.{sym, ◌∙◌}
 use Rattle.soundness.proofs.TextLaws.{Passing, pass_begins, pass_on, pass_two, pass_stop, pass_out}
 use Rattle.soundness.proofs.texts.characters_end.Goals as goal
+use Rattle.soundness.proofs.texts.characters_end.Goals.{Else-not-is_character}
+
+passed-one : (c : Else-not-is_character) → (Passing c.args.tree.now c.args.from c.args.end (c.loop-at.at + 1))
+passed-one c =
+    pass_on c.loop-at.invariant (omega arith)
+    (sym c.is_character.ensures ∙ c.if-not-is_character.false)
 
 pub loop-at-init : goal.loop-at-init
 loop-at-init c = pass_begins c.args.tree.now c.args.from c.args.end c.requires.0 c.requires.1
@@ -15,18 +21,12 @@ returns-then-not-is_character c =
 
 pub returns-then-not-is_character-2 : goal.returns-then-not-is_character-2
 returns-then-not-is_character-2 c =
-    let passed-one : (Passing c.args.tree.now c.args.from c.args.end (c.loop-at.at + 1)) =
-    pass_on c.loop-at.invariant (omega arith)
-    (sym c.is_character.ensures ∙ c.if-not-is_character.false) in
-    pass_stop passed-one c.loop-at-test.true
+    pass_stop (passed-one (goal.at.returns-then-not-is_character-2 c).Else-not-is_character) c.loop-at-test.true
     (sym c.is_character-in-loop-at.ensures ∙ c.if-not-is_character-2.true)
 
 pub loop-at-preserved : goal.loop-at-preserved
 loop-at-preserved c =
-    let passed-one : (Passing c.args.tree.now c.args.from c.args.end (c.loop-at.at + 1)) =
-    pass_on c.loop-at.invariant (omega arith)
-    (sym c.is_character.ensures ∙ c.if-not-is_character.false) in
-    pass_two c.loop-at.at passed-one c.loop-at-test.true
+    pass_two c.loop-at.at (passed-one (goal.at.loop-at-preserved c).Else-not-is_character) c.loop-at-test.true
     (sym c.is_character-in-loop-at.ensures ∙ c.if-not-is_character-2.false)
 
 pub returns-then-end-at : goal.returns-then-end-at

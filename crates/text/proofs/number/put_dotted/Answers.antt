@@ -7,16 +7,19 @@ use Rattle.protocol.specs.Buffer.{farthest, Laid}
 use Rattle.protocol.proofs.LayLaws.{laid_same}
 use Rattle.text.proofs.TextLaws.{dotted_none, dots_begin, dots_more, dotted-ends}
 use Rattle.text.proofs.number.put_dotted.Goals as goal
+use Rattle.text.proofs.number.put_dotted.Goals.{After-put_decimal-next}
+
+some : (c : After-put_decimal-next) → 0 < length c.args.path.now
+some c =
+    omega (arith, c.if-path-eq0.false)
 
 pub returns-then-path-eq0 : goal.returns-then-path-eq0
 returns-then-path-eq0 c = dotted_none c.args.path.now c.if-path-eq0.true c.behind.ensures
 
 pub loop-i-init : goal.loop-i-init
 loop-i-init c =
-    let some : 0 < length c.args.path.now =
-    omega (arith, c.if-path-eq0.false) in
     let path = c.args.path.now in
-    (omega arith, dots_begin path c.put_decimal-next.new.out c.put_decimal-next.result some (omega (arith, c.put_decimal-next.ensures.next)))
+    (omega arith, dots_begin path c.put_decimal-next.new.out c.put_decimal-next.result (some (goal.at.loop-i-init c).After-put_decimal-next) (omega (arith, c.put_decimal-next.ensures.next)))
 
 pub loop-i-preserved : goal.loop-i-preserved
 loop-i-preserved c =
@@ -30,6 +33,4 @@ loop-i-preserved c =
 
 pub returns : goal.returns
 returns c =
-    let some : 0 < length c.args.path.now =
-    omega (arith, c.if-path-eq0.false) in
-    dotted-ends c.args.path.now (omega arith) some c.put_decimal-next.ensures c.loop-i.invariant.1 c.loop-i-test.false
+    dotted-ends c.args.path.now (omega arith) (some (goal.at.returns c).After-put_decimal-next) c.put_decimal-next.ensures c.loop-i.invariant.1 c.loop-i-test.false
