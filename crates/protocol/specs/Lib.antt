@@ -2,6 +2,7 @@
 -- lists of bytes, records, options. Read them in this order. Each comment names the section that the definition states. What is
 -- proved of them stands in proofs/.
 pub mod Numbers
+pub mod Refusal
 pub mod Bytes
 pub mod Frame
 pub mod Buffer

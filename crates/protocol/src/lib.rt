@@ -5,6 +5,9 @@
 
 pub mod codes;
 
+ghost use Rattle.std.specs.Prelude.{◌≡◌};
+ghost use Rattle.protocol.specs.Refusal.{refusal_number, op_number, IsOp};
+
 // A node's number among the children of its parent (document 01, The tree).
 #[derive(Drop)]
 pub struct NodeNumber(pub u8);
@@ -12,6 +15,76 @@ pub struct NodeNumber(pub u8);
 // A property's number among the properties of its node.
 #[derive(Clone, Copy)]
 pub struct PropertyIndex(pub u8);
+
+// Why a call refuses (document 01, Numbers returned; document 02). The numbers are those that C is told.
+#[derive(Clone, Copy, Debug, PartialEq, Eq)]
+pub enum Refusal {
+    Unsound = 1,
+    NoPreamble = 2,
+    BadPair = 3,
+    TooShort = 4,
+    TooLong = 5,
+    BadChecksum = 6,
+    OtherAddress = 7,
+    NoRoom = 8,
+    Disabled = 9,
+    UnknownCommand = 10,
+    BadParameter = 11,
+    NoReading = 12,
+    NotSaved = 13,
+    NotLive = 14,
+    NoSuchNode = 15,
+    NoSuchProperty = 16,
+    BadSheet = 17,
+    NotInRange = 18,
+    BadIdentifier = 19,
+    BadLength = 20,
+}
+
+impl From<Refusal> for u8 {
+    ghost from_gives = { λ r n. n ≡ refusal_number r };
+
+    fn from(refusal: Refusal) -> u8 {
+        refusal as u8
+    }
+}
+
+// The operations of PDI (document 003, section 5).
+#[derive(Clone, Copy, Debug, PartialEq, Eq)]
+pub enum Op {
+    Detect = 0,
+    Node = 1,
+    Record = 2,
+    Read = 3,
+    Write = 4,
+    WriteExtended = 5,
+}
+
+impl From<Op> for u8 {
+    ghost from_gives = { λ op n. n ≡ op_number op };
+
+    fn from(op: Op) -> u8 {
+        op as u8
+    }
+}
+
+impl TryFrom<u8> for Op {
+    type Error = Refusal;
+
+    ghost try_from_gives = { IsOp };
+
+    fn try_from(n: u8) -> Result<Op, Refusal> {
+        match n {
+            0 => Ok(Op::Detect),
+            1 => Ok(Op::Node),
+            2 => Ok(Op::Record),
+            3 => Ok(Op::Read),
+            4 => Ok(Op::Write),
+            5 => Ok(Op::WriteExtended),
+            _ => Err(Refusal::UnknownCommand),
+        }
+    }
+}
 
 // Numbers returned (document 01).
 pub const DONE: u8 = 0;
