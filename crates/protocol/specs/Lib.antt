@@ -10,6 +10,7 @@ pub mod Stream
 pub mod Request
 pub mod Tree
 pub mod Path
+pub mod KeptPath
 pub mod Text
 pub mod Listing
 pub mod Listed

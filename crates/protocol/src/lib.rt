@@ -4,6 +4,7 @@
 #![tactic(auto)]
 
 pub mod codes;
+pub mod path;
 
 ghost use Rattle.std.specs.Prelude.{◌≡◌};
 ghost use Rattle.protocol.specs.Refusal.{refusal_number, op_number, IsOp};
