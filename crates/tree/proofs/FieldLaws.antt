@@ -21,7 +21,7 @@ use Rattle.protocol.specs.Answer.{record_texts}
 use Rattle.protocol.proofs.BufferLaws.{part_lent}
 use Rattle.protocol.proofs.RequestLaws.{zero_within}
 use Rattle.protocol.proofs.LoadLaws.{begins_front}
-use Rattle.tree.specs.declared.part.Part.{Part}
+use Rattle.std.specs.declared.ops.Range.{Range}
 use Rattle.tree.specs.declared.record.Fields.{Fields}
 use Rattle.tree.specs.Form.{node_size, property_size, properties_start}
 use Rattle.tree.specs.Seen.{half_at, word_at, first_text, after_text, texts_from, node_seen, property_seen, option_count, node_count, property_count, seen}
@@ -260,7 +260,7 @@ part_empty : (bs : List ℕ) {s : List ℕ} → s ≡ [] → PartIs 0 s bs (reco
 part_empty bs e = record { starts = refl; ends = omega (arith, ap length e); within = omega arith; is = sym e }
 
 -- The same part, for where it begins and for what it is.
-part_as : {from from' : ℕ} {s s' : List ℕ} (bs : List ℕ) {r : Part} → from ≡ from' → s ≡ s' → PartIs from s bs r → PartIs from' s' bs r
+part_as : {from from' : ℕ} {s s' : List ℕ} (bs : List ℕ) {r : Range ℕ} → from ≡ from' → s ≡ s' → PartIs from s bs r → PartIs from' s' bs r
 part_as {from} {s' = s'} bs {r} e f p = subst (λ n. PartIs n s' bs r) e (subst (λ l. PartIs from l bs r) f p)
 
 pub part_past : (bs : List ℕ) (from : ℕ) → length bs < from
@@ -298,7 +298,7 @@ module _ (bs : List ℕ) (place : ℕ) where
   label_past h =
       part_as bs (sym (rw (le-ltb place (property_count bs) h))) refl (part_empty bs (ap (λ x. x.label) (property_none bs place h)))
 
-module _ (bs : List ℕ) (place : ℕ) {r : Part} where
+module _ (bs : List ℕ) (place : ℕ) {r : Range ℕ} where
   pub name_part : {from : ℕ} → place < node_count bs → from ≡ half_at (3 + place * node_size) bs
       → PartIs (text_start bs from) (first_text (drop from bs)) bs r → PartIs (name_start bs place) (node_in (seen bs) place).name bs r
   unfolding node_seen name_start
@@ -338,7 +338,7 @@ module _ (bs : List ℕ) (place : ℕ) where
     pub start_at : from ≤ length bs → (from ≡ label_start bs place) × (from ≤ length bs)
     start_at l = (sym (start_is ∙ rw (le-ltb (length bs) from l)), l)
 
-  part_front : {s : List ℕ} {r : Part} → PartIs (label_start bs place) s bs r → begins s (drop (label_start bs place) bs) ≡ true
+  part_front : {s : List ℕ} {r : Range ℕ} → PartIs (label_start bs place) s bs r → begins s (drop (label_start bs place) bs) ≡ true
   part_front {s} {r} p =
       let xs : List ℕ = drop (label_start bs place) bs in
       let m : ℕ = r.end - r.start in

@@ -1,18 +1,10 @@
--- What the lookups hand back: a place, the numbers of a property, and where a text lies.
+-- What the lookups hand back: the numbers of a property, and where a text lies.
 use Rattle.std.specs.Prelude.{ℕ, ◌+◌, ◌-◌, ◌*◌, ◌<◌, ◌≤◌, ◌≡◌, Bool, true, cond, List, [], length, take, drop, ltb}
-use Rattle.std.proofs.Math.Option.{Option, none, some}
+use Rattle.std.specs.declared.ops.Range.{Range}
 use Rattle.protocol.specs.Tree.{Property, Tree, places_from, property_in}
 use Rattle.tree.specs.Form.{node_size, property_size, properties_start}
 use Rattle.tree.specs.Seen.{half_at, node_count, property_count}
-use Rattle.tree.specs.declared.Found.{Found}
-use Rattle.tree.specs.declared.Found.TheVariants.{At, Nothing}
-use Rattle.tree.specs.declared.part.Part.{Part}
 use Rattle.tree.specs.declared.record.Fields.{Fields}
-
--- A place, or that there is none.
-abbrev pub found_of : Option ℕ → Found
-found_of none = Nothing
-found_of (some place) = At place
 
 -- The fields of a property that are numbers.
 pub record FieldsAre (p : Property) (r : Fields) : Type 0 where
@@ -47,6 +39,13 @@ module _ (test : Property → Bool) (t : Tree) where
     pub same : places_in from ≡ places_in r
     pub is : r < length t.properties → test (property_in t r) ≡ true
 
+-- The next one where a closure tells of a property's numbers what a test tells of the property, whichever test that is.
+abbrev pub TellsOf : (Fields → Bool → Type 0) → (Property → Bool) → Type 0
+TellsOf post test = (p : Property) (f : Fields) (b : Bool) → FieldsAre p f → post f b → b ≡ test p
+
+abbrev pub NextWhere : (Fields → Bool → Type 0) → Tree → ℕ → ℕ → Type 0
+NextWhere post t from r = (test : Property → Bool) → TellsOf post test → NextIs test t from r
+
 -- Where a text begins that is said to lie at a place: there, or at the front where the bytes have ended before it.
 abbrev pub text_start : List ℕ → ℕ → ℕ
 text_start bs from = cond (ltb (length bs) from) 0 from
@@ -60,7 +59,7 @@ label_start bs place =
     cond (ltb place (property_count bs)) (text_start bs (half_at (properties_start (node_count bs) + place * property_size + 14) bs)) 0
 
 -- The part of some bytes, from a place on, that holds a text.
-pub record PartIs (from : ℕ) (s bs : List ℕ) (r : Part) : Type 0 where
+pub record PartIs (from : ℕ) (s bs : List ℕ) (r : Range ℕ) : Type 0 where
   pub starts : r.start ≡ from
   pub ends : r.end ≡ from + length s
   pub within : r.end ≤ length bs

@@ -15,10 +15,3 @@ mod texts;
 pub const NODE_SIZE: usize = 3;
 
 pub const PROPERTY_SIZE: usize = 16;
-
-// A place, or that there is none.
-#[derive(Drop)]
-pub enum Found {
-    At(usize),
-    Nothing,
-}

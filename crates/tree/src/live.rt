@@ -4,18 +4,11 @@ ghost use Rattle.tree.specs.Seen.{seen};
 ghost use Rattle.tree.specs.Lookup.{NextIs};
 
 use super::record;
+use super::record::Fields;
 
 // The place of the next live property, from a place on; behind the last property where there is none.
 pub fn next(tree: &[u8], from: usize) -> usize
     ensures { NextIs is_live (seen tree.now) from result }
 {
-    let count = record::property_count(tree);
-    let mut k = from;
-    while k < count {
-        if record::read_fields(tree, k).is_live() {
-            return k;
-        }
-        k += 1;
-    }
-    k
+    record::next_where(tree, from, Fields::is_live)
 }

@@ -6,33 +6,24 @@ ghost use Rattle.tree.specs.Seen.{first_text, half_at, seen, node_count, propert
 ghost use Rattle.tree.specs.Lookup.{text_start, name_start, label_start, PartIs};
 
 use super::{NODE_SIZE, PROPERTY_SIZE, bytes, record};
-
-// A part of a tree's bytes: from a place to the one before `end`.
-#[derive(Drop)]
-pub struct Part {
-    pub start: usize,
-    pub end: usize,
-}
+use std::ops::Range;
 
 // The text that begins at a place, without the zero that ends it.
-fn text_at(tree: &[u8], from: usize) -> Part
+fn text_at(tree: &[u8], from: usize) -> Range<usize>
     ensures { PartIs (text_start tree.now from) (first_text (drop from tree.now)) tree.now result }
 {
     if tree.len() < from {
-        return Part { start: 0, end: 0 };
+        return 0..0;
     }
-    Part {
-        start: from,
-        end: from + word::before_zero(&tree[from..]),
-    }
+    from..from + word::before_zero(&tree[from..])
 }
 
 // A node's name; empty where there is no such node.
-pub fn name(tree: &[u8], node: usize) -> Part
+pub fn name(tree: &[u8], node: usize) -> Range<usize>
     ensures { PartIs (name_start tree.now node) (node_in (seen tree.now) node).name tree.now result }
 {
     if word::wide(bytes::byte_at(tree, 0)) <= node {
-        return Part { start: 0, end: 0 };
+        return 0..0;
     }
     let from = bytes::half_at(tree, 3 + node * NODE_SIZE) as usize;
     text_at(tree, from)
@@ -62,11 +53,11 @@ pub fn label_start(tree: &[u8], place: usize) -> usize
 }
 
 // A property's label; empty where there is no such property.
-pub fn label(tree: &[u8], place: usize) -> Part
+pub fn label(tree: &[u8], place: usize) -> Range<usize>
     ensures { PartIs (label_start tree.now place) (property_in (seen tree.now) place).label tree.now result }
 {
     if word::wide(bytes::byte_at(tree, 1)) <= place {
-        return Part { start: 0, end: 0 };
+        return 0..0;
     }
     let from = label_place(tree, place);
     text_at(tree, from)

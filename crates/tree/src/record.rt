@@ -8,7 +8,7 @@ ghost use Rattle.protocol.specs.Answer.{record_texts};
 ghost use Rattle.tree.specs.Form.{properties_start};
 ghost use Rattle.tree.specs.Seen.{property_seen, seen, option_count};
 ghost use Rattle.tree.specs.Steps.{entries};
-ghost use Rattle.tree.specs.Lookup.{FieldsAre, numbers_of};
+ghost use Rattle.tree.specs.Lookup.{FieldsAre, NextWhere, numbers_of};
 
 use super::{NODE_SIZE, PROPERTY_SIZE, bytes, texts};
 use protocol::{BIT_LIVE, BIT_READ, BIT_SIGNED, BIT_STEP, BIT_WRITE, ENUMERATION, STEP_MASK};
@@ -156,6 +156,20 @@ pub fn read_fields(tree: &[u8], place: usize) -> Fields
     }
     let cut = cut_record(tree, at);
     fields_of(&cut[..])
+}
+
+// The place of the next property whose numbers pass a test, from a place on; behind the last property where there is none.
+pub fn next_where<F: Fn(Fields) -> bool>(tree: &[u8], from: usize, test: F) -> usize
+    requires { F.IsAlwaysCallable test }
+    ensures { NextWhere (F.post test) (seen tree.now) from result }
+{
+    let count = property_count(tree);
+    for k in from..count {
+        if test(read_fields(tree, k)) {
+            return k;
+        }
+    }
+    from.max(count)
 }
 
 // A node's name, with the zero that ends it, put at a place of an output, as far as there is room. Returns the next place.
