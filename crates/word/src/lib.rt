@@ -1,63 +1,56 @@
-// Numbers made of bytes, the high byte first; a word as a signed integer; and where a text ends.
+// Numbers made of bytes, the high byte first, and their bytes; a word as a signed integer; and where a text ends.
 #![tactic(auto)]
 
-ghost use Rattle.std.specs.Prelude.{◌≡◌, ◌+◌, ◌*◌, ◌<◌, ◌^◌, true, [], ◌∷◌};
-ghost use Rattle.protocol.specs.Bytes.{number};
+ghost use Rattle.std.specs.Prelude.{◌≡◌, true, [], ◌∷◌, ◌==◌, position};
+ghost use Rattle.protocol.specs.Bytes.{number, half, word};
 ghost use Rattle.protocol.specs.Request.{before_zero};
 ghost use Rattle.protocol.specs.Signed.{number_of, integer_of};
-
-// A byte as a place or a count.
-pub fn wide(b: u8) -> usize
-    ensures { result ≡ b }
-{
-    b as usize
-}
 
 // A number of 16 bits.
 pub fn half_of(high: u8, low: u8) -> u16
     ensures { result ≡ number (high ∷ low ∷ []) }
 {
-    high as u16 * 256 + low as u16
-}
-
-// A number with one byte more behind it.
-fn with_byte(high: u32, low: u8) -> u32
-    requires { high < 2 ^ 24 }
-    ensures { result ≡ high * 2 ^ 8 + low }
-{
-    high * 256 + low as u32
+    u16::from_be_bytes([high, low])
 }
 
 // A number of 32 bits.
 pub fn word_of(first: u8, second: u8, third: u8, last: u8) -> u32
     ensures { result ≡ number (first ∷ second ∷ third ∷ last ∷ []) }
 {
-    let two = with_byte(first as u32, second);
-    let three = with_byte(two, third);
-    with_byte(three, last)
+    u32::from_be_bytes([first, second, third, last])
+}
+
+// The bytes of a number of 16 bits.
+pub fn half_bytes_of(n: u16) -> [u8; 2]
+    ensures { result ≡ half n }
+{
+    n.to_be_bytes()
+}
+
+// The bytes of a number of 32 bits.
+pub fn bytes_of(n: u32) -> [u8; 4]
+    ensures { result ≡ word n }
+{
+    n.to_be_bytes()
 }
 
 // A word as a signed integer.
 pub fn signed(w: u32) -> i32
     ensures { result ≡ integer_of (number_of true w) }
 {
-    if w < 2147483648 {
-        return w as i32;
-    }
-    -1 - ((4294967295 - w) as i32)
+    w.cast_signed()
+}
+
+// Where the first zero stands.
+fn first_zero(bs: &[u8]) -> Option<usize>
+    ensures { result ≡ position (λ b. b == 0) bs.now }
+{
+    bs.iter().position(|b| *b == 0)
 }
 
 // How many bytes stand before the first zero.
 pub fn before_zero(bs: &[u8]) -> usize
     ensures { result ≡ before_zero bs.now }
 {
-    let mut end = bs.len();
-    let mut i = 0;
-    while i < end {
-        if bs[i] == 0 {
-            end = i;
-        }
-        i += 1;
-    }
-    end
+    first_zero(bs).unwrap_or(bs.len())
 }

@@ -1,5 +1,5 @@
 -- `word::half_of` meets its contract. Assumes nothing.
-use native.Mathlib.Omega.{arith}
+use Rattle.std.proofs.Common.{arith}
 use Rattle.protocol.specs.Bytes.{number_after}
 use Rattle.word.proofs.half_of.Goals as goal
 
