@@ -14,33 +14,36 @@ use lib.Dec.{eqb}
 use Rattle.protocol.specs.Tree.{Tree, child_of, descend, node_at}
 use Rattle.protocol.specs.Path.{missing_from, missing_length}
 use Rattle.protocol.proofs.PathLaws.{node_on, part_lost, missing_here, missing_behind}
-use Rattle.lookup.specs.declared.Reached.{Reached}
-use Rattle.lookup.specs.declared.Reached.TheVariants.{At, Missing}
+use Rattle.std.proofs.Common.{Result, Ok, Err}
+use Rattle.lookup.specs.declared.Missing.{Missing}
 use Rattle.lookup.specs.Reach.{reached_of}
 
 -- What a path leads to.
-abbrev reach : Tree → List ℕ → Reached
+abbrev reach : Tree → List ℕ → Result ℕ Missing
 reach t path = reached_of (node_at t path) (missing_length t path)
 
-missing_is : (t : Tree) (path : List ℕ) {len : ℕ} → node_at t path ≡ none → missing_length t path ≡ len → Missing len ≡ reach t path
-missing_is t path e f = ap Missing (sym f) ∙ ap (λ o. reached_of o (missing_length t path)) (sym e)
+abbrev missing : ℕ → Result ℕ Missing
+missing len = Err (record { 0 = len })
+
+missing_is : (t : Tree) (path : List ℕ) {len : ℕ} → node_at t path ≡ none → missing_length t path ≡ len → missing len ≡ reach t path
+missing_is t path e f = ap missing (sym f) ∙ ap (λ o. reached_of o (missing_length t path)) (sym e)
 
 -- What was reached: a node, or a part that no node has.
-pub reached_at : (o : Option ℕ) (len : ℕ) {place : ℕ} → At place ≡ reached_of o len → o ≡ some place
+pub reached_at : (o : Option ℕ) (len : ℕ) {place : ℕ} → Ok place ≡ reached_of o len → o ≡ some place
 reached_at none len h = cc
 reached_at (some n) len h = cc
 
-pub reached_none : (o : Option ℕ) (len : ℕ) {part : ℕ} → Missing part ≡ reached_of o len → (o ≡ none) × (len ≡ part)
+pub reached_none : (o : Option ℕ) (len : ℕ) {part : Missing} → Err part ≡ reached_of o len → (o ≡ none) × (len ≡ part.0)
 reached_none none len h = (refl, cc)
 reached_none (some n) len h = (cc, cc)
 
-pub walk_empty : (t : Tree) (path : List ℕ) → length path < 1 → Missing 0 ≡ reach t path
+pub walk_empty : (t : Tree) (path : List ℕ) → length path < 1 → missing 0 ≡ reach t path
 unfolding node_at missing_from
 walk_empty t [] h = refl
 walk_empty t (n ∷ ns) h = absurd (omega (arith, h))
 
 -- A path that does not begin with 1.
-pub walk_other : (t : Tree) (path : List ℕ) → 1 ≤ length path → (get_or path 0 0 ≡ 1 → ⊥) → Missing 1 ≡ reach t path
+pub walk_other : (t : Tree) (path : List ℕ) → 1 ≤ length path → (get_or path 0 0 ≡ 1 → ⊥) → missing 1 ≡ reach t path
 unfolding node_at
 walk_other t [] l h = absurd (omega (arith, l))
 walk_other t (n ∷ ns) l h =
@@ -72,7 +75,7 @@ module _ (t : Tree) (path : List ℕ) {place i : ℕ} (w : Walking t path place 
     parts_left : missing_length t path ≡ missing_from t path i (suc (length path - suc i))
     parts_left = let one_more : length path - i ≡ suc (length path - suc i) = omega arith in w.parts ∙ ap (missing_from t path i) one_more
 
-    pub walk_lost : next_child ≡ none → Missing (i + 1) ≡ reach t path
+    pub walk_lost : next_child ≡ none → missing (i + 1) ≡ reach t path
     walk_lost e =
         missing_is t path
         (part_lost t path (suc i) (omega (arith, length-take-le (suc i) path h)) (longer ∙ e))
@@ -88,6 +91,6 @@ module _ (t : Tree) (path : List ℕ) {place i : ℕ} (w : Walking t path place 
               ∙ ap (λ n. missing_from t path n (length path - n)) (sym (add-one i));
         }
 
-  pub walk_ends : length path ≤ i → At place ≡ reach t path
+  pub walk_ends : length path ≤ i → Ok place ≡ reach t path
   walk_ends h =
       ap (λ o. reached_of o (missing_length t path)) (sym w.reached ∙ ap (node_at t) (take_all i path h))

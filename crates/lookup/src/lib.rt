@@ -6,12 +6,12 @@ ghost use Rattle.std.specs.Prelude.{◌≡◌, ◌+◌, ◌*◌, ◌<◌, length
 ghost use Rattle.protocol.specs.Tree.{numbered, children_of, properties_of, child_of, property_of, node_at};
 ghost use Rattle.protocol.specs.Path.{missing_length};
 ghost use Rattle.tree.specs.Seen.{seen};
-ghost use Rattle.tree.specs.Lookup.{found_of};
+ghost use Rattle.protocol.specs.Refusal.{option_of};
 ghost use Rattle.lookup.specs.Find.{belonging, children_table, properties_table};
 ghost use Rattle.lookup.specs.Reach.{reached_of};
 
 use protocol::{NodeNumber, PropertyIndex};
-use tree::{Found, NODE_SIZE, PROPERTY_SIZE, bytes, record};
+use tree::{NODE_SIZE, PROPERTY_SIZE, bytes, record};
 
 // Records of one size, and which of them are looked at: from one place in the list to an end.
 #[derive(Clone, Copy)]
@@ -57,24 +57,24 @@ fn names_node(tree: &[u8], table: Table, k: usize, node: usize) -> u8
 }
 
 // The place of the record with a number among those that name a node.
-fn numbered_in(tree: &[u8], table: Table, node: usize, n: u8) -> Found
+fn numbered_in(tree: &[u8], table: Table, node: usize, n: u8) -> Option<usize>
     requires { (table.start < 65536) × ((table.size < 256) × (table.end < 256)) }
-    ensures { result ≡ found_of (numbered (belonging tree.now table node) n) }
+    ensures { result ≡ option_of (numbered (belonging tree.now table node) n) }
 {
     if n == 0 {
-        return Found::Nothing;
+        return None;
     }
     let mut left = n;
     let mut k = table.first;
     while k < table.end {
         let hit = names_node(tree, table, k, node);
         if left == hit {
-            return Found::At(k);
+            return Some(k);
         }
         left -= hit;
         k += 1;
     }
-    Found::Nothing
+    None
 }
 
 // How many records name a node.
@@ -92,15 +92,15 @@ fn count_in(tree: &[u8], table: Table, node: usize) -> u8
 }
 
 // The child of a node with a node number.
-pub fn child(tree: &[u8], node: usize, n: NodeNumber) -> Found
-    ensures { result ≡ found_of (child_of (seen tree.now) node n) }
+pub fn child(tree: &[u8], node: usize, n: NodeNumber) -> Option<usize>
+    ensures { result ≡ option_of (child_of (seen tree.now) node n) }
 {
     numbered_in(tree, children_table(tree), node, n.0)
 }
 
 // The property of a node with a property index.
-pub fn property(tree: &[u8], node: usize, index: PropertyIndex) -> Found
-    ensures { result ≡ found_of (property_of (seen tree.now) node index) }
+pub fn property(tree: &[u8], node: usize, index: PropertyIndex) -> Option<usize>
+    ensures { result ≡ option_of (property_of (seen tree.now) node index) }
 {
     numbered_in(tree, properties_table(tree), node, index.0)
 }
@@ -118,31 +118,26 @@ pub fn properties(tree: &[u8], node: usize) -> u8
     count_in(tree, properties_table(tree), node)
 }
 
-// What a path leads to: the place of its node, or the length of its shortest front part that no node has.
-#[derive(Drop)]
-pub enum Reached {
-    At(usize),
-    Missing(usize),
-}
+// The length of a path's shortest front part that no node has.
+#[derive(Clone, Copy)]
+pub struct Missing(pub usize);
 
-// The node of a path: the device, whose path is 1, then child after child.
-pub fn node(tree: &[u8], path: &[u8]) -> Reached
+// The place of the node of a path: the device, whose path is 1, then child after child.
+pub fn node(tree: &[u8], path: &[u8]) -> Result<usize, Missing>
     ensures { result ≡ reached_of (node_at (seen tree.now) path.now) (missing_length (seen tree.now) path.now) }
 {
     if path.len() < 1 {
-        return Reached::Missing(0);
+        return Err(Missing(0));
     }
     if path[0] != 1 {
-        return Reached::Missing(1);
+        return Err(Missing(1));
     }
     let mut place = 0;
-    let mut i = 1;
-    while i < path.len() {
-        let Found::At(next) = child(tree, place, NodeNumber(path[i])) else {
-            return Reached::Missing(i + 1);
+    for i in 1..path.len() {
+        let Some(next) = child(tree, place, NodeNumber(path[i])) else {
+            return Err(Missing(i + 1));
         };
         place = next;
-        i += 1;
     }
-    Reached::At(place)
+    Ok(place)
 }

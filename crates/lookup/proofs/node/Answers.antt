@@ -34,7 +34,7 @@ loop-i-preserved c =
     let args = c.args in
     let child = child_of (seen args.tree.now) c.loop-i.place (record { 0 = get_or args.path.now c.loop-i.i 0 }) in
     walk_more (seen args.tree.now) args.path.now c.loop-i.invariant c.loop-i-test.true
-    (found_at child (sym c.in-At.is ∙ c.child.ensures))
+    (found_at child (sym c.in-Some.is ∙ c.child.ensures))
 
 pub returns : goal.returns
 returns c =

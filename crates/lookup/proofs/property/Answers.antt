@@ -2,7 +2,7 @@
 use native.Mathlib.Omega.{arith}
 use mathlib.Core.Path.{ap, ◌∙◌}
 use Rattle.protocol.specs.Tree.{numbered}
-use Rattle.tree.specs.Lookup.{found_of}
+use Rattle.protocol.specs.Refusal.{option_of}
 use Rattle.lookup.proofs.FindLaws.{properties_in, properties_small}
 use Rattle.lookup.proofs.property.Goals as goal
 
@@ -15,4 +15,4 @@ pub returns : goal.returns
 returns c =
     let args = c.args in
     c.numbered_in.ensures
-    ∙ ap (λ xs. found_of (numbered xs args.index.0)) (properties_in args.tree.now args.node c.properties_table.ensures)
+    ∙ ap (λ xs. option_of (numbered xs args.index.0)) (properties_in args.tree.now args.node c.properties_table.ensures)
