@@ -1,5 +1,6 @@
 -- What is proved of the definitions of specs/.
 pub mod TestLaws
+pub mod RefusalLaws
 pub mod ListLaws
 pub mod PackLaws
 pub mod PlaceLaws
