@@ -30,7 +30,7 @@ fn children_table(tree: &[u8]) -> Table
         start: 2,
         size: NODE_SIZE,
         first: 1,
-        end: word::wide(bytes::byte_at(tree, 0)),
+        end: usize::from(bytes::byte_at(tree, 0)),
     }
 }
 
@@ -41,7 +41,7 @@ fn properties_table(tree: &[u8]) -> Table
         start: record::properties_start(tree),
         size: PROPERTY_SIZE,
         first: 0,
-        end: word::wide(bytes::byte_at(tree, 1)),
+        end: usize::from(bytes::byte_at(tree, 1)),
     }
 }
 
@@ -50,7 +50,7 @@ fn names_node(tree: &[u8], table: Table, k: usize, node: usize) -> u8
     requires { (table.start < 65536) × ((table.size < 256) × (k < 256)) }
     ensures { result ≡ cond (eqb (get_or tree.now (table.start + k * table.size) 0) node) 1 0 }
 {
-    if word::wide(bytes::byte_at(tree, table.start + k * table.size)) == node {
+    if usize::from(bytes::byte_at(tree, table.start + k * table.size)) == node {
         return 1;
     }
     0

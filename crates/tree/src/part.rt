@@ -22,7 +22,7 @@ fn text_at(tree: &[u8], from: usize) -> Range<usize>
 pub fn name(tree: &[u8], node: usize) -> Range<usize>
     ensures { PartIs (name_start tree.now node) (node_in (seen tree.now) node).name tree.now result }
 {
-    if word::wide(bytes::byte_at(tree, 0)) <= node {
+    if usize::from(bytes::byte_at(tree, 0)) <= node {
         return 0..0;
     }
     let from = bytes::half_at(tree, 3 + node * NODE_SIZE) as usize;
@@ -42,7 +42,7 @@ fn label_place(tree: &[u8], place: usize) -> usize
 pub fn label_start(tree: &[u8], place: usize) -> usize
     ensures { (result ≡ label_start tree.now place) × (result ≤ length tree.now) }
 {
-    if word::wide(bytes::byte_at(tree, 1)) <= place {
+    if usize::from(bytes::byte_at(tree, 1)) <= place {
         return 0;
     }
     let from = label_place(tree, place);
@@ -56,7 +56,7 @@ pub fn label_start(tree: &[u8], place: usize) -> usize
 pub fn label(tree: &[u8], place: usize) -> Range<usize>
     ensures { PartIs (label_start tree.now place) (property_in (seen tree.now) place).label tree.now result }
 {
-    if word::wide(bytes::byte_at(tree, 1)) <= place {
+    if usize::from(bytes::byte_at(tree, 1)) <= place {
         return 0..0;
     }
     let from = label_place(tree, place);

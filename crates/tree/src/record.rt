@@ -80,21 +80,21 @@ pub fn at_most(signed: bool, m: u32, n: u32) -> bool
 pub fn node_count(tree: &[u8]) -> usize
     ensures { result ≡ length (seen tree.now).nodes }
 {
-    word::wide(bytes::byte_at(tree, 0))
+    usize::from(bytes::byte_at(tree, 0))
 }
 
 // How many properties there are.
 pub fn property_count(tree: &[u8]) -> usize
     ensures { result ≡ length (seen tree.now).properties }
 {
-    word::wide(bytes::byte_at(tree, 1))
+    usize::from(bytes::byte_at(tree, 1))
 }
 
 // Where the property records begin.
 pub fn properties_start(tree: &[u8]) -> usize
     ensures { result ≡ properties_start (get_or tree.now 0 0) }
 {
-    2 + word::wide(bytes::byte_at(tree, 0)) * NODE_SIZE
+    2 + usize::from(bytes::byte_at(tree, 0)) * NODE_SIZE
 }
 
 // How many texts are the unit or options.
@@ -140,7 +140,7 @@ fn cut_record(tree: &[u8], at: usize) -> [u8; 16]
 pub fn read_fields(tree: &[u8], place: usize) -> Fields
     ensures { FieldsAre (property_in (seen tree.now) place) result }
 {
-    if word::wide(bytes::byte_at(tree, 1)) <= place {
+    if usize::from(bytes::byte_at(tree, 1)) <= place {
         return Fields {
             node: 0,
             kind: 0,
@@ -176,7 +176,7 @@ pub fn next_where<F: Fn(Fields) -> bool>(tree: &[u8], from: usize, test: F) -> u
 pub fn put_name(tree: &[u8], node: usize, out: &mut [u8], at: usize) -> usize
     ensures { Put at (fitting at (text (node_in (seen tree.now) node).name) out.old) out.old result out.new }
 {
-    if word::wide(bytes::byte_at(tree, 0)) <= node {
+    if usize::from(bytes::byte_at(tree, 0)) <= node {
         return texts::put_texts(tree, tree.len(), 1, out, at);
     }
     let from = bytes::half_at(tree, 3 + node * NODE_SIZE) as usize;
@@ -187,7 +187,7 @@ pub fn put_name(tree: &[u8], node: usize, out: &mut [u8], at: usize) -> usize
 pub fn put_record_texts(tree: &[u8], place: usize, out: &mut [u8], at: usize) -> usize
     ensures { Put at (fitting at (record_texts (property_in (seen tree.now) place)) out.old) out.old result out.new }
 {
-    if word::wide(bytes::byte_at(tree, 1)) <= place {
+    if usize::from(bytes::byte_at(tree, 1)) <= place {
         return texts::put_texts(tree, tree.len(), 1, out, at);
     }
     let record = properties_start(tree) + place * PROPERTY_SIZE;

@@ -15,20 +15,20 @@ overflow_mul-k c = omega (arith, mul-le-mul (le_of_lt c.requires.1.1) (le_of_lt 
 pub overflow_add-table : goal.overflow_add-table
 overflow_add-table c = omega (arith, mul-le-mul (le_of_lt c.requires.1.1) (le_of_lt c.requires.1.0))
 
-pub returns-then-wide-node : goal.returns-then-wide-node
-returns-then-wide-node c =
-    let reads : c.wide.result ≡ (let args = c.args in
+pub returns-then-from-node : goal.returns-then-from-node
+returns-then-from-node c =
+    let reads : c.from.result ≡ (let args = c.args in
     get_or args.tree.now (args.table.start + args.k * args.table.size) 0) =
-    c.wide.ensures ∙ c.byte_at.ensures in
+    c.from.ensures ∙ c.byte_at.ensures in
     let args = c.args in
     sym (ap (λ t. cond t 1 0) (eq-eqb (let args = c.args in
-    get_or args.tree.now (args.table.start + args.k * args.table.size) 0) args.node (sym reads ∙ c.if-wide-node.true)))
+    get_or args.tree.now (args.table.start + args.k * args.table.size) 0) args.node (sym reads ∙ c.if-from-node.true)))
 
 pub returns : goal.returns
 returns c =
-    let reads : c.wide.result ≡ (let args = c.args in
+    let reads : c.from.result ≡ (let args = c.args in
     get_or args.tree.now (args.table.start + args.k * args.table.size) 0) =
-    c.wide.ensures ∙ c.byte_at.ensures in
+    c.from.ensures ∙ c.byte_at.ensures in
     let args = c.args in
     sym (ap (λ t. cond t 1 0) (ne_eqb (let args = c.args in
-    get_or args.tree.now (args.table.start + args.k * args.table.size) 0) args.node (differ reads refl c.if-wide-node.false)))
+    get_or args.tree.now (args.table.start + args.k * args.table.size) 0) args.node (differ reads refl c.if-from-node.false)))

@@ -4,8 +4,8 @@ use mathlib.Core.Path.{refl}
 use Rattle.tree.proofs.FieldLaws.{label_past, label_part}
 use Rattle.tree.proofs.part.label.Goals as goal
 
-pub returns-then-wide-place : goal.returns-then-wide-place
-returns-then-wide-place c = let args = c.args in label_past args.tree.now args.place (omega arith)
+pub returns-then-from-place : goal.returns-then-from-place
+returns-then-from-place c = let args = c.args in label_past args.tree.now args.place (omega arith)
 
 pub returns : goal.returns
 returns c =

@@ -4,8 +4,8 @@ use mathlib.Core.Path.{refl}
 use Rattle.tree.proofs.FieldLaws.{start_past, start_none, start_at}
 use Rattle.tree.proofs.part.label_start.Goals as goal
 
-pub returns-then-wide-place : goal.returns-then-wide-place
-returns-then-wide-place c = let args = c.args in start_past args.tree.now args.place (omega arith)
+pub returns-then-from-place : goal.returns-then-from-place
+returns-then-from-place c = let args = c.args in start_past args.tree.now args.place (omega arith)
 
 pub returns-then-tree-from : goal.returns-then-tree-from
 returns-then-tree-from c =

@@ -3,8 +3,8 @@ use native.Mathlib.Omega.{arith}
 use Rattle.tree.proofs.FieldLaws.{name_past, name_part}
 use Rattle.tree.proofs.part.name.Goals as goal
 
-pub returns-then-wide-node : goal.returns-then-wide-node
-returns-then-wide-node c = let args = c.args in name_past args.tree.now args.node (omega arith)
+pub returns-then-from-node : goal.returns-then-from-node
+returns-then-from-node c = let args = c.args in name_past args.tree.now args.node (omega arith)
 
 pub returns : goal.returns
 returns c =

@@ -4,4 +4,4 @@ use Rattle.tree.proofs.FieldLaws.{property_count_lem}
 use Rattle.tree.proofs.record.property_count.Goals as goal
 
 pub returns : goal.returns
-returns c = c.wide.ensures ∙ c.byte_at.ensures ∙ sym (property_count_lem c.args.tree.now)
+returns c = c.from.ensures ∙ c.byte_at.ensures ∙ sym (property_count_lem c.args.tree.now)

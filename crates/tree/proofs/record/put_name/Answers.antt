@@ -5,8 +5,8 @@ use lib.ListN.{length}
 use Rattle.tree.proofs.FieldLaws.{name_at, name_none, put_texts_as}
 use Rattle.tree.proofs.record.put_name.Goals as goal
 
-pub returns-then-wide-node : goal.returns-then-wide-node
-returns-then-wide-node c =
+pub returns-then-from-node : goal.returns-then-from-node
+returns-then-from-node c =
     let args = c.args in
     put_texts_as (length args.out.now - args.at) (name_none args.tree.now args.node (omega arith))
     c.put_texts.ensures

@@ -8,8 +8,8 @@ use Rattle.tree.specs.Seen.{property_count, option_count}
 use Rattle.tree.proofs.FieldLaws.{property_near, options_few, record-texts-at, record-texts-none, put_texts_as}
 use Rattle.tree.proofs.record.put_record_texts.Goals as goal
 
-pub returns-then-wide-place : goal.returns-then-wide-place
-returns-then-wide-place c =
+pub returns-then-from-place : goal.returns-then-from-place
+returns-then-from-place c =
     let args = c.args in
     put_texts_as (length args.out.now - args.at) (record-texts-none args.tree.now args.place (omega arith)) c.put_texts.ensures
 

@@ -12,8 +12,8 @@ use Rattle.tree.specs.Lookup.{FieldsAre}
 use Rattle.tree.proofs.FieldLaws.{property_near, fields_at, fields_none, fields_whole, fields_cut}
 use Rattle.tree.proofs.record.read_fields.Goals as goal
 
-pub returns-then-wide-place : goal.returns-then-wide-place
-returns-then-wide-place c =
+pub returns-then-from-place : goal.returns-then-from-place
+returns-then-from-place c =
     let args = c.args in
     fields_none args.tree.now args.place (omega arith)
 
