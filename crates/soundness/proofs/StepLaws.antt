@@ -16,12 +16,13 @@ use Rattle.protocol.specs.Numbers.{standard, enumeration, last_step_code, max_no
 use Rattle.protocol.specs.Bytes.{at_most}
 use Rattle.protocol.specs.Tree.{Property, is_signed, can_read, can_write, is_live, step_code, standard_fits, live_sound, property_in}
 use Rattle.protocol.proofs.TestLaws.{and_left, and_right}
-use Rattle.tree.specs.declared.Found.{Found}
-use Rattle.tree.specs.declared.Found.TheVariants.{At, Nothing}
+use Rattle.std.proofs.Common.{Some, None}
+use Rattle.std.proofs.Common as std
+use Rattle.protocol.specs.Refusal.{option_of}
 use Rattle.tree.specs.declared.record.Fields.{Fields}
 use Rattle.tree.specs.Form.{node_size, property_size, properties_start, texts_start}
 use Rattle.tree.specs.Seen.{half_at, word_at, seen, node_count, property_count, property_seen, option_count}
-use Rattle.tree.specs.Lookup.{found_of, FieldsAre, numbers_of}
+use Rattle.tree.specs.Lookup.{FieldsAre, numbers_of}
 use Rattle.tree.proofs.FoundLaws.{found_at, found_none, if_some}
 use Rattle.tree.proofs.NumberLaws.{half_behind}
 use Rattle.tree.proofs.FieldLaws.{property_at_lem, name_place}
@@ -44,14 +45,14 @@ module _ (bs r : List ℕ) (at : ℕ) where
   node_within h e = texts-within bs name_room 1 at h (if_some (eqb (half_at 1 r) at) e).1
 
 module _ (bs : List ℕ) (k at : ℕ) where
-  pub node_elsewhere : (half_at (3 + k * node_size) bs ≡ at → ⊥) → Nothing ≡ found_of (node_end bs (drop (2 + k * node_size) bs) at)
+  pub node_elsewhere : (half_at (3 + k * node_size) bs ≡ at → ⊥) → None ≡ option_of (node_end bs (drop (2 + k * node_size) bs) at)
   node_elsewhere h =
-      sym (ap found_of (node_other bs (drop (2 + k * node_size) bs) at (λ e. h (sym (name_place bs k) ∙ e))))
+      sym (ap option_of (node_other bs (drop (2 + k * node_size) bs) at (λ e. h (sym (name_place bs k) ∙ e))))
 
-  pub node_ends : {x : Found} → half_at (3 + k * node_size) bs ≡ at → x ≡ found_of (texts_end_in bs name_room 1 at)
-      → x ≡ found_of (node_end bs (drop (2 + k * node_size) bs) at)
+  pub node_ends : {x : std.Option ℕ} → half_at (3 + k * node_size) bs ≡ at → x ≡ option_of (texts_end_in bs name_room 1 at)
+      → x ≡ option_of (node_end bs (drop (2 + k * node_size) bs) at)
   node_ends h e =
-      e ∙ sym (ap found_of (node_here bs (drop (2 + k * node_size) bs) at (name_place bs k ∙ h)))
+      e ∙ sym (ap option_of (node_here bs (drop (2 + k * node_size) bs) at (name_place bs k ∙ h)))
 
 -- Records from a place on, of which some are done.
 pub record Going (size : ℕ) (f : List ℕ → ℕ → Option ℕ) (bs : List ℕ) (from start total n at k : ℕ) : Type 0 where
@@ -74,11 +75,11 @@ module _ {size : ℕ} {f : List ℕ → ℕ → Option ℕ} {bs : List ℕ} {fro
       }
 
   module _ {n at k : ℕ} (w : Going size f bs from start total n at k) where
-    pub go_ends : n ≤ k → At at ≡ found_of (records_end size f total (drop from bs) start)
+    pub go_ends : n ≤ k → Some at ≡ option_of (records_end size f total (drop from bs) start)
     unfolding records_end
     go_ends h =
         let m : n - k ≡ 0 = omega arith in
-        sym (ap found_of (w.whole ∙ ap (λ m. records_end size f m (drop (from + k * size) bs) at) m))
+        sym (ap option_of (w.whole ∙ ap (λ m. records_end size f m (drop (from + k * size) bs) at) m))
 
     module _ (h : k < n) where
       here : records_end size f total (drop from bs) start
@@ -93,16 +94,16 @@ module _ {size : ℕ} {f : List ℕ → ℕ → Option ℕ} {bs : List ℕ} {fro
           ∙ ap (λ l. and_then (f (drop (from + k * size) bs) at) (λ next. records_end size f (n - (k + 1)) l next))
           (drop-drop size (from + k * size) bs ∙ ap (λ x. drop x bs) i)
 
-      pub go_fails : Nothing ≡ found_of (f (drop (from + k * size) bs) at) → Nothing ≡ found_of (records_end size f total (drop from bs) start)
+      pub go_fails : None ≡ option_of (f (drop (from + k * size) bs) at) → None ≡ option_of (records_end size f total (drop from bs) start)
       unfolding and_then
       go_fails e =
-          sym (ap found_of
+          sym (ap option_of
           (here
           ∙ ap (λ o. and_then o (λ next. records_end size f (n - (k + 1)) (drop (from + (k + 1) * size) bs) next))
           (found_none (f (drop (from + k * size) bs) at) e)))
 
       pub go_on : {next : ℕ} → (f (drop (from + k * size) bs) at ≡ some next → next ≤ length bs)
-          → At next ≡ found_of (f (drop (from + k * size) bs) at) → Going size f bs from start total n next (k + 1)
+          → Some next ≡ option_of (f (drop (from + k * size) bs) at) → Going size f bs from start total n next (k + 1)
       unfolding and_then
       go_on {next} within e =
           let is : f (drop (from + k * size) bs) at ≡ some next = found_at (f (drop (from + k * size) bs) at) e in
@@ -196,12 +197,12 @@ module _ (bs : List ℕ) (k at : ℕ) {f : Fields} {nodes : ℕ} (n : nodes ≡ 
   unfolding property_seen
   options = ap₂ option_count fields.kind fields.max
 
-  pub property_unfit : fields_fit nodes (numbers_of f) ≡ false → Nothing ≡ found_of (property_end bs (drop begin bs) at)
-  property_unfit e = sym (ap found_of (unfit bs (drop begin bs) at (sym fit ∙ e)))
+  pub property_unfit : fields_fit nodes (numbers_of f) ≡ false → None ≡ option_of (property_end bs (drop begin bs) at)
+  property_unfit e = sym (ap option_of (unfit bs (drop begin bs) at (sym fit ∙ e)))
 
-  pub property_elsewhere : (half_at (begin + 14) bs ≡ at → ⊥) → Nothing ≡ found_of (property_end bs (drop begin bs) at)
+  pub property_elsewhere : (half_at (begin + 14) bs ≡ at → ⊥) → None ≡ option_of (property_end bs (drop begin bs) at)
   property_elsewhere u =
-      sym (ap found_of (elsewhere bs (drop begin bs) at (λ e. u (sym (half_behind begin bs 14) ∙ e))))
+      sym (ap option_of (elsewhere bs (drop begin bs) at (λ e. u (sym (half_behind begin bs 14) ∙ e))))
 
   module _ (good : fields_fit nodes (numbers_of f) ≡ true) (here : half_at (begin + 14) bs ≡ at) where
     is : {o : Option ℕ} → texts_end_in bs name_room 1 at ≡ o
@@ -210,14 +211,14 @@ module _ (bs : List ℕ) (k at : ℕ) {f : Fields} {nodes : ℕ} (n : nodes ≡ 
         texts_follow bs (drop begin bs) at (sym fit ∙ good) (half_behind begin bs 14 ∙ here)
         ∙ ap₂ (λ o m. and_then o (λ mid. texts_end_in bs max_texts m mid)) e (sym options)
 
-    pub property_unnamed : Nothing ≡ found_of (texts_end_in bs name_room 1 at) → Nothing ≡ found_of (property_end bs (drop begin bs) at)
+    pub property_unnamed : None ≡ option_of (texts_end_in bs name_room 1 at) → None ≡ option_of (property_end bs (drop begin bs) at)
     unfolding and_then
-    property_unnamed e = sym (ap found_of (is (found_none (texts_end_in bs name_room 1 at) e)))
+    property_unnamed e = sym (ap option_of (is (found_none (texts_end_in bs name_room 1 at) e)))
 
-    pub property_ends : {mid : ℕ} {x : Found} → At mid ≡ found_of (texts_end_in bs name_room 1 at)
-        → x ≡ found_of (texts_end_in bs max_texts (option_count f.kind f.max) mid) → x ≡ found_of (property_end bs (drop begin bs) at)
+    pub property_ends : {mid : ℕ} {x : std.Option ℕ} → Some mid ≡ option_of (texts_end_in bs name_room 1 at)
+        → x ≡ option_of (texts_end_in bs max_texts (option_count f.kind f.max) mid) → x ≡ option_of (property_end bs (drop begin bs) at)
     unfolding and_then
-    property_ends e q = q ∙ sym (ap found_of (is (found_at (texts_end_in bs name_room 1 at) e)))
+    property_ends e q = q ∙ sym (ap option_of (is (found_at (texts_end_in bs name_room 1 at) e)))
 
 -- What the counts tell.
 pub record Counted (bs : List ℕ) : Type 0 where
@@ -252,7 +253,7 @@ module _ (bs : List ℕ) where
   uncounted e = rw e
 
   module _ (fit : counts_fit bs ≡ true) where
-    pub names_within : {mid : ℕ} → At mid ≡ found_of names → mid ≤ length bs
+    pub names_within : {mid : ℕ} → Some mid ≡ option_of names → mid ≤ length bs
     names_within e =
         records_within node_size (node_end bs) (length bs) (λ r at next h q. node_within bs r at h q) (node_count bs) (drop 2 bs)
         (texts_start (node_count bs) (property_count bs)) (counts bs fit).records (found_at names e)
@@ -273,15 +274,15 @@ module _ (bs : List ℕ) where
       unfolding texts_fit
       texts_by e = counted_by (depths_fit_is parents) ∙ ap (λ o. ends_at (and_then o labels) (length bs)) e
 
-      pub nameless : Nothing ≡ found_of names → checked bs ≡ false
+      pub nameless : None ≡ option_of names → checked bs ≡ false
       unfolding and_then
       nameless e = texts_by (found_none names e)
 
-      module _ {mid : ℕ} (e : At mid ≡ found_of names) where
-        pub labelless : Nothing ≡ found_of (labels mid) → checked bs ≡ false
+      module _ {mid : ℕ} (e : Some mid ≡ option_of names) where
+        pub labelless : None ≡ option_of (labels mid) → checked bs ≡ false
         unfolding and_then
         labelless f = texts_by (found_at names e) ∙ ap (λ o. ends_at o (length bs)) (found_none (labels mid) f)
 
-        pub all_read : {end : ℕ} → At end ≡ found_of (labels mid) → checked bs ≡ eqb end (length bs)
+        pub all_read : {end : ℕ} → Some end ≡ option_of (labels mid) → checked bs ≡ eqb end (length bs)
         unfolding and_then
         all_read f = texts_by (found_at names e) ∙ ap (λ o. ends_at o (length bs)) (found_at (labels mid) f)

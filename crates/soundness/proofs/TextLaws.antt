@@ -13,8 +13,8 @@ use lib.ListN.{length, get_or, take, drop, length-take, length-drop}
 use lib.Seq.{drop-cons, drop-drop, take-nil, get_or-drop, get_or-take, length-take-le}
 use lib.Dec.{eqb, leb}
 use Rattle.protocol.specs.Tree.{is_character}
-use Rattle.tree.specs.declared.Found.TheVariants.{At, Nothing}
-use Rattle.tree.specs.Lookup.{found_of}
+use Rattle.std.proofs.Common.{Some, None}
+use Rattle.protocol.specs.Refusal.{option_of}
 use Rattle.soundness.specs.Check.{characters_in, texts_end, texts_end_in}
 use Rattle.soundness.proofs.ScanLaws.{end_on, end_last, end_next, end_bad}
 
@@ -178,12 +178,12 @@ module _ {bs : List ℕ} {from count room end : ℕ} where
               ∙ ap (texts_end rest (left - 1)) (sym (add-one at));
         }
 
-    pub scan_ended : get_or bs at 0 ≡ 0 → left ≤ 1 → At (at + 1) ≡ found_of (texts_end_in bs room count from)
-    scan_ended e l = sym (ap found_of (whole_by e ∙ end_last left rest at l) ∙ ap At (sym (add-one at)))
+    pub scan_ended : get_or bs at 0 ≡ 0 → left ≤ 1 → Some (at + 1) ≡ option_of (texts_end_in bs room count from)
+    scan_ended e l = sym (ap option_of (whole_by e ∙ end_last left rest at l) ∙ ap Some (sym (add-one at)))
 
-    pub scan_bad : (get_or bs at 0 ≡ 0 → ⊥) → is_character (get_or bs at 0) ≡ false → Nothing ≡ found_of (texts_end_in bs room count from)
+    pub scan_bad : (get_or bs at 0 ≡ 0 → ⊥) → is_character (get_or bs at 0) ≡ false → None ≡ option_of (texts_end_in bs room count from)
     scan_bad e f =
-        sym (ap found_of (whole_here ∙ end_bad left (get_or bs at 0) rest at (ne_eqb (get_or bs at 0) 0 e) f))
+        sym (ap option_of (whole_here ∙ end_bad left (get_or bs at 0) rest at (ne_eqb (get_or bs at 0) 0 e) f))
 
   -- Behind the characters that stand here.
   module _ {left at stop : ℕ} (s : Scanning bs from count room end left at) (e : stop ≡ at + characters_in (take (end - at) (drop at bs))) where
@@ -217,8 +217,8 @@ module _ {bs : List ℕ} {from count room end : ℕ} where
         ∙ ap (λ k. get_or bs k 0) (sym e) in
         ap is_character (sym byte) ∙ characters_stop l (omega (arith, size, e, h))
 
-  pub scan_out : {left at : ℕ} → Scanning bs from count room end left at → end ≤ at → Nothing ≡ found_of (texts_end_in bs room count from)
+  pub scan_out : {left at : ℕ} → Scanning bs from count room end left at → end ≤ at → None ≡ option_of (texts_end_in bs room count from)
   unfolding texts_end
   scan_out {left} {at} s h =
       let n : end - at ≡ 0 = omega arith in
-      sym (ap found_of (s.whole ∙ ap (λ m. texts_end (take m (drop at bs)) left at) n))
+      sym (ap option_of (s.whole ∙ ap (λ m. texts_end (take m (drop at bs)) left at) n))

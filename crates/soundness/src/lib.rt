@@ -9,7 +9,8 @@ ghost use Rattle.std.specs.Prelude.{◌≡◌, ◌+◌, ◌*◌, ◌≤◌, ◌<
 ghost use Rattle.protocol.specs.Tree.{standard_fits, live_sound};
 ghost use Rattle.tree.specs.Form.{node_size, property_size, properties_start};
 ghost use Rattle.tree.specs.Seen.{node_count, property_count};
-ghost use Rattle.tree.specs.Lookup.{found_of, numbers_of};
+ghost use Rattle.protocol.specs.Refusal.{option_of};
+ghost use Rattle.tree.specs.Lookup.{numbers_of};
 ghost use Rattle.soundness.specs.Sound.{is_tree};
 ghost use Rattle.soundness.specs.Check.{node_end, property_end, records_end, kind_fits, fields_fit, counts_fit};
 
@@ -18,35 +19,30 @@ use protocol::{
     STANDARD,
 };
 use tree::record::Fields;
-use tree::{Found, NODE_SIZE, PROPERTY_SIZE, bytes, record};
+use tree::{NODE_SIZE, PROPERTY_SIZE, bytes, record};
 
 // A node's record, from where the texts before it ended: the end of its name.
-fn node_end(tree: &[u8], k: usize, at: usize) -> Found
+fn node_end(tree: &[u8], k: usize, at: usize) -> Option<usize>
     requires { (k < 256) × (at ≤ length tree.now) }
-    ensures { result ≡ found_of (node_end tree.now (drop (2 + k * node_size) tree.now) at) }
+    ensures { result ≡ option_of (node_end tree.now (drop (2 + k * node_size) tree.now) at) }
 {
     if bytes::half_at(tree, 3 + k * NODE_SIZE) as usize != at {
-        return Found::Nothing;
+        return None;
     }
     texts::texts_end(tree, at, 1, NAME_ROOM)
 }
 
 // All nodes' records: the end of the names.
-fn names_end(tree: &[u8], start: usize) -> Found
+fn names_end(tree: &[u8], start: usize) -> Option<usize>
     requires { start ≤ length tree.now }
-    ensures { result ≡ found_of (records_end node_size (node_end tree.now) (node_count tree.now) (drop 2 tree.now) start) }
+    ensures { result ≡ option_of (records_end node_size (node_end tree.now) (node_count tree.now) (drop 2 tree.now) start) }
 {
-    let nodes = word::wide(bytes::byte_at(tree, 0));
+    let nodes = usize::from(bytes::byte_at(tree, 0));
     let mut at = start;
-    let mut k = 0;
-    while k < nodes {
-        let Found::At(next) = node_end(tree, k, at) else {
-            return Found::Nothing;
-        };
-        at = next;
-        k += 1;
+    for k in 0..nodes {
+        at = node_end(tree, k, at)?;
     }
-    Found::At(at)
+    Some(at)
 }
 
 // The numbers of type 1: its range, and a step code that means a step.
@@ -92,7 +88,7 @@ fn live_fits(f: Fields) -> bool
 fn fields_fit(nodes: usize, f: Fields) -> bool
     ensures { result ≡ fields_fit nodes (numbers_of f) }
 {
-    if nodes <= word::wide(f.node) {
+    if nodes <= usize::from(f.node) {
         return false;
     }
     if !live_fits(f) {
@@ -102,40 +98,33 @@ fn fields_fit(nodes: usize, f: Fields) -> bool
 }
 
 // A property's record, from where the texts before it ended: the end of its texts.
-fn property_end(tree: &[u8], k: usize, at: usize) -> Found
+fn property_end(tree: &[u8], k: usize, at: usize) -> Option<usize>
     requires { (k < get_or tree.now 1 0) × (at ≤ length tree.now) }
-    ensures { result ≡ found_of (property_end tree.now (drop (properties_start (node_count tree.now) + k * property_size) tree.now) at) }
+    ensures { result ≡ option_of (property_end tree.now (drop (properties_start (node_count tree.now) + k * property_size) tree.now) at) }
 {
     let f = record::read_fields(tree, k);
-    if !fields_fit(word::wide(bytes::byte_at(tree, 0)), f) {
-        return Found::Nothing;
+    if !fields_fit(usize::from(bytes::byte_at(tree, 0)), f) {
+        return None;
     }
     let place = record::properties_start(tree) + k * PROPERTY_SIZE + 14;
     if bytes::half_at(tree, place) as usize != at {
-        return Found::Nothing;
+        return None;
     }
-    let Found::At(mid) = texts::texts_end(tree, at, 1, NAME_ROOM) else {
-        return Found::Nothing;
-    };
+    let mid = texts::texts_end(tree, at, 1, NAME_ROOM)?;
     texts::texts_end(tree, mid, record::option_count(f.kind, f.max), MAX_TEXTS)
 }
 
 // All properties' records, from where the names ended: the end of their texts.
-fn labels_end(tree: &[u8], start: usize) -> Found
+fn labels_end(tree: &[u8], start: usize) -> Option<usize>
     requires { start ≤ length tree.now }
-    ensures { result ≡ found_of (records_end property_size (property_end tree.now) (property_count tree.now) (drop (properties_start (node_count tree.now)) tree.now) start) }
+    ensures { result ≡ option_of (records_end property_size (property_end tree.now) (property_count tree.now) (drop (properties_start (node_count tree.now)) tree.now) start) }
 {
-    let properties = word::wide(bytes::byte_at(tree, 1));
+    let properties = usize::from(bytes::byte_at(tree, 1));
     let mut at = start;
-    let mut k = 0;
-    while k < properties {
-        let Found::At(next) = property_end(tree, k, at) else {
-            return Found::Nothing;
-        };
-        at = next;
-        k += 1;
+    for k in 0..properties {
+        at = property_end(tree, k, at)?;
     }
-    Found::At(at)
+    Some(at)
 }
 
 // The counts fit, and the records are all there.
@@ -145,10 +134,10 @@ fn counts_fit(tree: &[u8]) -> bool
     if tree.len() < 2 {
         return false;
     }
-    if MAX_NODES < word::wide(tree[0]) {
+    if MAX_NODES < usize::from(tree[0]) {
         return false;
     }
-    let properties = word::wide(tree[1]);
+    let properties = usize::from(tree[1]);
     if MAX_PROPERTIES < properties {
         return false;
     }
@@ -165,11 +154,11 @@ pub fn is_tree(tree: &[u8]) -> bool
     if !parents::parents_sound(tree) {
         return false;
     }
-    let start = record::properties_start(tree) + word::wide(tree[1]) * PROPERTY_SIZE;
-    let Found::At(mid) = names_end(tree, start) else {
+    let start = record::properties_start(tree) + usize::from(tree[1]) * PROPERTY_SIZE;
+    let Some(mid) = names_end(tree, start) else {
         return false;
     };
-    let Found::At(end) = labels_end(tree, mid) else {
+    let Some(end) = labels_end(tree, mid) else {
         return false;
     };
     end == tree.len()

@@ -11,7 +11,7 @@ use tree::{NODE_SIZE, bytes};
 pub(crate) fn parents_sound(tree: &[u8]) -> bool
     ensures { result ≡ (leb (node_count tree.now) 64 && parents_fit (parents_in tree.now)) }
 {
-    let nodes = word::wide(bytes::byte_at(tree, 0));
+    let nodes = usize::from(bytes::byte_at(tree, 0));
     if MAX_NODES < nodes {
         return false;
     }
@@ -25,12 +25,12 @@ pub(crate) fn parents_sound(tree: &[u8]) -> bool
     depths[0] = 1;
     let mut k = 1;
     while k < nodes {
-        let parent = word::wide(bytes::byte_at(tree, 2 + k * NODE_SIZE));
+        let parent = usize::from(bytes::byte_at(tree, 2 + k * NODE_SIZE));
         if k <= parent {
             return false;
         }
         let depth = depths[parent];
-        if MAX_DEPTH <= word::wide(depth) {
+        if MAX_DEPTH <= usize::from(depth) {
             return false;
         }
         depths[k] = depth + 1;

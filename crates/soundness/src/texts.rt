@@ -1,11 +1,10 @@
 // Texts in lent bytes, each ended by a zero: their end found.
 ghost use Rattle.std.specs.Prelude.{◌≡◌, ◌+◌, ◌-◌, ◌≤◌, min, length, take, drop};
 ghost use Rattle.protocol.specs.Tree.{is_character};
-ghost use Rattle.tree.specs.Lookup.{found_of};
+ghost use Rattle.protocol.specs.Refusal.{option_of};
 ghost use Rattle.soundness.specs.Check.{characters_in, texts_end_in};
 
 use protocol::{FIRST_CHARACTER, LAST_CHARACTER};
-use tree::Found;
 
 // A character is 20h to 7Eh (document 01, The tree).
 fn is_character(b: u8) -> bool
@@ -54,9 +53,9 @@ fn end_of_room(len: usize, from: usize, room: usize) -> usize
 
 // The place after some texts that begin at a place and take at most so many bytes; nothing where a byte is no character, or
 // bytes or room end before the texts do.
-pub(crate) fn texts_end(tree: &[u8], from: usize, count: usize, room: usize) -> Found
+pub(crate) fn texts_end(tree: &[u8], from: usize, count: usize, room: usize) -> Option<usize>
     requires { from ≤ length tree.now }
-    ensures { result ≡ found_of (texts_end_in tree.now room count from) }
+    ensures { result ≡ option_of (texts_end_in tree.now room count from) }
 {
     let end = end_of_room(tree.len(), from, room);
     let mut left = count;
@@ -64,16 +63,16 @@ pub(crate) fn texts_end(tree: &[u8], from: usize, count: usize, room: usize) -> 
     while at < end {
         let stop = characters_end(tree, at, end);
         if end <= stop {
-            return Found::Nothing;
+            return None;
         }
         if tree[stop] != 0 {
-            return Found::Nothing;
+            return None;
         }
         at = stop + 1;
         if left <= 1 {
-            return Found::At(at);
+            return Some(at);
         }
         left -= 1;
     }
-    Found::Nothing
+    None
 }

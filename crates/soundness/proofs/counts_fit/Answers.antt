@@ -10,9 +10,9 @@ pub returns-then-tree-lt2 : goal.returns-then-tree-lt2
 unfolding counts_fit
 returns-then-tree-lt2 c = simp (lt-leb 2 (length c.args.tree.now) c.if-tree-lt2.true)
 
-pub returns-then-wide-gt-MAX_NODES : goal.returns-then-wide-gt-MAX_NODES
+pub returns-then-from-gt-MAX_NODES : goal.returns-then-from-gt-MAX_NODES
 unfolding counts_fit
-returns-then-wide-gt-MAX_NODES c =
+returns-then-from-gt-MAX_NODES c =
     let bs = c.args.tree.now in
     simp (
       le-leb 2 (length bs) c.if-tree-lt2.false,
@@ -35,7 +35,7 @@ returns c =
     let bs = c.args.tree.now in
     simp (
       c.properties_start.ensures,
-      c.wide-properties.ensures,
+      c.from-properties.ensures,
       le-leb 2 (length bs) (omega arith),
       le-leb (get_or bs 0 0) max_nodes (omega arith),
       le-leb (get_or bs 1 0) max_properties (omega arith),

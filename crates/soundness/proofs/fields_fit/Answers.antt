@@ -5,9 +5,9 @@ use borrow.Author.Tests.{lt-ltb, le-ltb}
 use Rattle.soundness.specs.Check.{fields_fit}
 use Rattle.soundness.proofs.fields_fit.Goals as goal
 
-pub returns-then-nodes-wide : goal.returns-then-nodes-wide
+pub returns-then-nodes-from : goal.returns-then-nodes-from
 unfolding fields_fit
-returns-then-nodes-wide c = simp (le-ltb c.args.f.node c.args.nodes (omega arith))
+returns-then-nodes-from c = simp (le-ltb c.args.f.node c.args.nodes (omega arith))
 
 pub returns-then-not-live_fits : goal.returns-then-not-live_fits
 unfolding fields_fit

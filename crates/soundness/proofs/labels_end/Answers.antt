@@ -5,21 +5,22 @@ use Rattle.soundness.proofs.StepLaws.{go_begins, go_on, go_fails, go_ends, prope
 use Rattle.soundness.proofs.labels_end.Goals as goal
 
 pub loop-k-init : goal.loop-k-init
-loop-k-init c = go_begins (c.wide-properties.ensures ∙ c.byte_at.ensures) c.requires
+loop-k-init c = go_begins (c.from-properties.ensures ∙ c.byte_at.ensures) c.requires
 
 pub property_end-requires : goal.property_end-requires
 property_end-requires c = (omega (arith, c.loop-k.invariant.count), c.loop-k.invariant.inside)
 
-pub returns-in_default : goal.returns-in_default
-returns-in_default c =
-    go_fails c.loop-k.invariant c.loop-k-test.true
-    (sym c.in_default.is ∙ c.property_end.ensures)
+pub returns-in_err-at : goal.returns-in_err-at
+returns-in_err-at c =
+    c.from_residual.ensures
+    ∙ go_fails c.loop-k.invariant c.loop-k-test.true
+    (sym c.in_err-at.was ∙ c.property_end.ensures)
 
 pub loop-k-preserved : goal.loop-k-preserved
 loop-k-preserved c =
     go_on c.loop-k.invariant c.loop-k-test.true
     (property_within _ _ _ c.loop-k.invariant.inside)
-    (sym c.in-At.is ∙ c.property_end.ensures)
+    (sym c.in_ok-at.was ∙ c.property_end.ensures)
 
 pub returns : goal.returns
 returns c = go_ends c.loop-k.invariant c.loop-k-test.false

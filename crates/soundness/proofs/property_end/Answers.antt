@@ -5,7 +5,7 @@ use mathlib.Core.Path.{◌≡◌, refl, sym, ap, ◌∙◌}
 use Rattle.protocol.specs.Numbers.{max_texts, name_room}
 use Rattle.tree.specs.Form.{property_size, properties_start}
 use Rattle.tree.specs.Seen.{half_at, node_count}
-use Rattle.tree.specs.Lookup.{found_of}
+use Rattle.protocol.specs.Refusal.{option_of}
 use Rattle.tree.proofs.FoundLaws.{found_at}
 use Rattle.tree.proofs.SameLaws.{differ}
 use Rattle.soundness.specs.Check.{texts_end_in}
@@ -24,7 +24,7 @@ half_is c =
 pub returns-then-not-fields_fit : goal.returns-then-not-fields_fit
 returns-then-not-fields_fit c =
     property_unfit c.args.tree.now c.args.k c.args.at
-    (c.wide.ensures ∙ c.byte_at.ensures) c.requires.0 c.read_fields-f.ensures
+    (c.from.ensures ∙ c.byte_at.ensures) c.requires.0 c.read_fields-f.ensures
     (sym c.fields_fit.ensures ∙ c.if-not-fields_fit.true)
 
 pub overflow_mul-place : goal.overflow_mul-place
@@ -43,31 +43,32 @@ overflow_add-place-2 c =
 pub returns-then-half_at-at : goal.returns-then-half_at-at
 returns-then-half_at-at c =
     property_elsewhere c.args.tree.now c.args.k c.args.at
-    (c.wide.ensures ∙ c.byte_at.ensures) c.requires.0 c.read_fields-f.ensures
+    (c.from.ensures ∙ c.byte_at.ensures) c.requires.0 c.read_fields-f.ensures
     (differ (half_is (goal.at.returns-then-half_at-at c).After-half_at) refl c.if-half_at-at.true)
 
-pub returns-in_default : goal.returns-in_default
-returns-in_default c =
-    property_unnamed c.args.tree.now c.args.k c.args.at
-    (c.wide.ensures ∙ c.byte_at.ensures) c.requires.0 c.read_fields-f.ensures
+pub returns-in_err-mid : goal.returns-in_err-mid
+returns-in_err-mid c =
+    c.from_residual.ensures
+    ∙ property_unnamed c.args.tree.now c.args.k c.args.at
+    (c.from.ensures ∙ c.byte_at.ensures) c.requires.0 c.read_fields-f.ensures
     (sym c.fields_fit.ensures ∙ c.if-not-fields_fit.false)
-    (sym (half_is (goal.at.returns-in_default c).After-half_at) ∙ c.if-half_at-at.false)
-    (sym c.in_default.is ∙ c.texts_end.ensures)
+    (sym (half_is (goal.at.returns-in_err-mid c).After-half_at) ∙ c.if-half_at-at.false)
+    (sym c.in_err-mid.was ∙ c.texts_end.ensures)
 
 pub texts_end-requires-2 : goal.texts_end-requires-2
 texts_end-requires-2 c =
     texts-within c.args.tree.now name_room 1 c.args.at c.requires.1
     (found_at (texts_end_in c.args.tree.now name_room 1 c.args.at)
-    (sym c.in-At.is ∙ c.texts_end.ensures))
+    (sym c.in_ok-mid.was ∙ c.texts_end.ensures))
 
 pub returns : goal.returns
 returns c =
     let ended : c.texts_end-2.result
-    ≡ found_of (texts_end_in c.args.tree.now max_texts c.option_count.result c.in-At.mid) =
+    ≡ option_of (texts_end_in c.args.tree.now max_texts c.option_count.result c.in_ok-mid.mid) =
     c.texts_end-2.ensures in
     property_ends c.args.tree.now c.args.k c.args.at
-    (c.wide.ensures ∙ c.byte_at.ensures) c.requires.0 c.read_fields-f.ensures
+    (c.from.ensures ∙ c.byte_at.ensures) c.requires.0 c.read_fields-f.ensures
     (sym c.fields_fit.ensures ∙ c.if-not-fields_fit.false)
     (sym (half_is (goal.at.returns c).After-half_at) ∙ c.if-half_at-at.false)
-    (sym c.in-At.is ∙ c.texts_end.ensures)
-    (ended ∙ ap (λ n. found_of (texts_end_in c.args.tree.now max_texts n c.in-At.mid)) c.option_count.ensures)
+    (sym c.in_ok-mid.was ∙ c.texts_end.ensures)
+    (ended ∙ ap (λ n. option_of (texts_end_in c.args.tree.now max_texts n c.in_ok-mid.mid)) c.option_count.ensures)

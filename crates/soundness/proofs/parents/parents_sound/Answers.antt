@@ -19,23 +19,23 @@ returns-then-byte_at-ne0 c =
 pub loop-k-init : goal.loop-k-init
 loop-k-init c =
     descend-begins
-    (c.wide-nodes.ensures ∙ c.byte_at.ensures)
+    (c.from-nodes.ensures ∙ c.byte_at.ensures)
     (omega arith) (omega arith) (sym c.byte_at-2.ensures ∙ c.if-byte_at-ne0.false) refl refl
 
 pub returns-then-k-parent : goal.returns-then-k-parent
 returns-then-k-parent c =
     descend_behind c.loop-k.invariant c.loop-k-test.true
-    (c.wide-parent.ensures ∙ c.byte_at-in-loop-k.ensures) c.if-k-parent.true
+    (c.from-parent.ensures ∙ c.byte_at-in-loop-k.ensures) c.if-k-parent.true
 
-pub returns-then-wide-ge-MAX_DEPTH : goal.returns-then-wide-ge-MAX_DEPTH
-returns-then-wide-ge-MAX_DEPTH c =
+pub returns-then-from-ge-MAX_DEPTH : goal.returns-then-from-ge-MAX_DEPTH
+returns-then-from-ge-MAX_DEPTH c =
     descend_deep c.loop-k.invariant c.loop-k-test.true
-    (c.wide-parent.ensures ∙ c.byte_at-in-loop-k.ensures) c.if-k-parent.false (omega (arith, c.if-wide-ge-MAX_DEPTH.true, c.wide.ensures))
+    (c.from-parent.ensures ∙ c.byte_at-in-loop-k.ensures) c.if-k-parent.false (omega (arith, c.if-from-ge-MAX_DEPTH.true, c.from.ensures))
 
 pub loop-k-preserved : goal.loop-k-preserved
 loop-k-preserved c =
     descend-on c.loop-k.invariant c.loop-k-test.true
-    (c.wide-parent.ensures ∙ c.byte_at-in-loop-k.ensures) c.if-k-parent.false (omega (arith, c.if-wide-ge-MAX_DEPTH.false, c.wide.ensures))
+    (c.from-parent.ensures ∙ c.byte_at-in-loop-k.ensures) c.if-k-parent.false (omega (arith, c.if-from-ge-MAX_DEPTH.false, c.from.ensures))
 
 pub returns : goal.returns
 returns c = descend-ends c.loop-k.invariant c.loop-k-test.false
