@@ -1,135 +1,71 @@
 -- Text read at the front of some bytes: a key byte by byte, digits one by one, and the number that they come to.
 -- Assumes nothing.
-use Prim.Native.Nat.{ℕ, suc, ◌+◌, ◌-◌, ◌*◌, ◌%◌, ◌^◌, ◌<◌, ◌≤◌}
+use Prim.Native.Nat.{ℕ, suc, ◌+◌, ◌-◌, ◌*◌, ◌^◌, ◌<◌, ◌≤◌}
 use native.Mathlib.Omega.{arith}
 use native.Mathlib.Numerals.{add-one}
+use native.Mathlib.Nat.{mod-eq_of_lt}
+use native.Mathlib.Decide.{dec_le}
 use mathlib.Core.Path.{◌≡◌, refl, sym, ap, ap₂, subst, ◌∙◌}
-use mathlib.Core.Bool.{Bool, true, false, cond, not, ◌&&◌, false≢true, and-false}
+use mathlib.Core.Bool.{Bool, true, false, cond, not, ◌&&◌, and-false}
 use mathlib.Core.List.{List, [], ◌∷◌}
 use borrow.Author.Tests.{lt-ltb, le-ltb, ltb-true, ltb-false, le-leb, lt-leb, leb-true, eq-eqb, ne_eqb}
-use lib.ListN.{length, get_or, take, drop, length-drop, drop_of_length-le, get_or-eq_default}
-use lib.Seq.{take-suc, take_all, drop-cons}
+use lib.ListN.{length, get_or, take, drop, drop_of_length-le, get_or-eq_default}
+use lib.Seq.{take-suc, drop-cons}
 use lib.Dec.{eqb, ltb, leb}
+use lib.Pointwise.{pointwise}
+use Rattle.std.specs.Option.{is_some, unwrap_or}
+use Rattle.std.proofs.Common.{Option, Some, None}
 use Rattle.protocol.specs.Numbers.{word_end}
 use Rattle.protocol.specs.Text.{begins}
-use Rattle.protocol.specs.Signed.{Number, is_word, word_for, is_digit, digits_in, value_after, value, is_numeral, is_number, number_in, number_size}
+use Rattle.protocol.specs.Signed.{Number, is_word, word_for, is_digit, digits_in, value_after, value, is_numeral, has_minus, is_number, number_in, number_size}
 use Rattle.protocol.proofs.TestLaws.{leb_same}
 use Rattle.protocol.proofs.DecimalLaws.{after-append}
 use Rattle.protocol.proofs.SignedLaws.{value_above}
-use Rattle.text.specs.Read.{SumIs, Adds, Compares, DigitsAre, ToldIs, number}
-use Rattle.text.specs.declared.read.Sum.{Sum}
+use Rattle.text.specs.Read.{in_word, Adds, at_most, negated, DigitsAre, Told, told_of, ToldIs, number}
 use Rattle.text.specs.declared.read.Digits.{Digits}
-use Rattle.text.specs.declared.read.Told.{Told}
 
--- A text longer than the bytes does not stand in front of them.
-pub begins_short : (front bs : List ℕ) → length bs < length front → false ≡ begins front bs
+-- A text in front of some bytes, as `starts_with` tells it.
+pub starts_begins : (front bs : List ℕ) → pointwise eqb front (take (length front) bs) ≡ begins front bs
 unfolding begins
-begins_short [] bs h = absurd (omega (arith, h))
-begins_short (c ∷ front) [] h = refl
-begins_short (c ∷ front) (b ∷ bs) h = sym (and-false (eqb c b)) ∙ ap (λ t. eqb c b && t) (begins_short front bs (omega (arith, h)))
+starts_begins [] [] = refl
+starts_begins [] (b ∷ bs) = refl
+starts_begins (c ∷ front) [] = refl
+starts_begins (c ∷ front) (b ∷ bs) = ap (λ t. eqb c b && t) (starts_begins front bs)
 
--- The first i bytes are the same: what is left decides.
-pub record Matching (front bs : List ℕ) (i : ℕ) : Type 0 where
-  pub within : i ≤ length front
-  pub room : length front ≤ length bs
-  pub left : begins front bs ≡ begins (drop i front) (drop i bs)
+-- A number that is one of 32 bits, and one that is not.
+pub word_fits : {n : ℕ} → n < word_end → in_word n ≡ Some n
+word_fits {n} h = ap (λ b. cond b (Some n) None) (lt-ltb n word_end h)
 
-pub match_begins : (front bs : List ℕ) → length front ≤ length bs → Matching front bs 0
-match_begins front bs h = record { within = omega arith; room = h; left = refl }
-
-module _ {front bs : List ℕ} {i : ℕ} (m : Matching front bs i) (h : i < length front) where
-  match_next : begins front bs ≡ (eqb (get_or front i 0) (get_or bs i 0) && begins (drop (suc i) front) (drop (suc i) bs))
-  unfolding begins
-  match_next = m.left ∙ ap₂ begins (drop-cons front i 0 h) (drop-cons bs i 0 (omega (arith, h, m.room)))
-
-  pub match_other : (get_or bs i 0 ≡ get_or front i 0 → ⊥) → false ≡ begins front bs
-  match_other n =
-      sym
-      (match_next
-      ∙ ap (λ t. t && begins (drop (suc i) front) (drop (suc i) bs)) (ne_eqb (get_or front i 0) (get_or bs i 0) (λ e. n (sym e))))
-
-  pub match_more : get_or bs i 0 ≡ get_or front i 0 → Matching front bs (i + 1)
-  match_more e =
-      record {
-        within = omega arith;
-        room = m.room;
-        left =
-            match_next ∙ ap (λ t. t && begins (drop (suc i) front) (drop (suc i) bs)) (eq-eqb (get_or front i 0) (get_or bs i 0) (sym e))
-            ∙ ap (λ n. begins (drop n front) (drop n bs)) (sym (add-one i));
-      }
-
-pub match_ends : {front bs : List ℕ} {i : ℕ} → Matching front bs i → length front ≤ i → true ≡ begins front bs
-unfolding begins
-match_ends {front} {bs} {i} m h = sym (m.left ∙ ap (λ l. begins l (drop i bs)) (drop_of_length-le front {i = i} h))
-
--- A number of 32 bits, and one that is beyond them.
-abbrev pub sum : Bool → ℕ → Sum
-sum fits value = record { fits = fits; value = value }
-
-sum_fits : {n v : ℕ} → n < word_end → v ≡ n → SumIs n (sum true v)
-sum_fits {n} h e = record { fits = sym (lt-ltb n word_end h); is = λ _. e }
-
-sum_beyond : {n : ℕ} → word_end ≤ n → SumIs n (sum false 0)
-sum_beyond {n} h = record { fits = sym (le-ltb n word_end h); is = λ e. absurd (false≢true e) }
-
-sum_large : {n : ℕ} {s : Sum} → SumIs n s → s.fits ≡ false → word_end ≤ n
-sum_large {n} k e = ltb-false n word_end (sym k.fits ∙ e)
-
--- One digit more, way by way.
-module _ (s : Sum) (d : ℕ) where
-  pub more_beyond : s.fits ≡ false → Adds s d (sum false 0)
-  more_beyond e n k = sum_beyond (omega (arith, sum_large k e))
-
-  pub more_high : s.fits ≡ true → 429496729 < s.value → Adds s d (sum false 0)
-  more_high e h n k = sum_beyond (omega (arith, k.is e, h))
-
-  pub more_last : s.fits ≡ true → 4294967295 - s.value * 10 < d → Adds s d (sum false 0)
-  more_last e h n k = sum_beyond (omega (arith, k.is e, h))
-
-  pub more_fits : s.fits ≡ true → s.value ≤ 429496729 → d ≤ 4294967295 - s.value * 10 → Adds s d (sum true (s.value * 10 + d))
-  more_fits e h l n k = sum_fits (omega (arith, k.is e, h, l)) (omega (arith, k.is e))
-
--- A number compared with a word.
-module _ (s : Sum) (most : ℕ) where
-  pub most_beyond : s.fits ≡ false → most < word_end → Compares s most false
-  most_beyond e h n k = sym (lt-leb n most (omega (arith, sum_large k e, h)))
-
-  pub most_fits : s.fits ≡ true → Compares s most (leb s.value most)
-  most_fits e n k = ap (λ v. leb v most) (k.is e)
+pub word_beyond : {n : ℕ} → word_end ≤ n → in_word n ≡ None
+word_beyond {n} h = ap (λ b. cond b (Some n) None) (le-ltb n word_end h)
 
 -- The first i bytes are digits, and what follows decides how many there are.
-pub record Scanning (bs : List ℕ) (s : Sum) (i : ℕ) : Type 0 where
+pub record Scanning (bs : List ℕ) (number : Option ℕ) (i : ℕ) : Type 0 where
   pub within : i ≤ length bs
   pub count : digits_in bs ≡ i + digits_in (drop i bs)
-  pub so_far : SumIs (value_after 0 (take i bs)) s
+  pub so_far : number ≡ in_word (value_after 0 (take i bs))
 
-pub scan_begins : (bs : List ℕ) → Scanning bs (sum true 0) 0
+pub scan_begins : (bs : List ℕ) → Scanning bs (Some 0) 0
 unfolding value_after
-scan_begins bs = record { within = omega arith; count = omega arith; so_far = sum_fits (omega arith) refl }
+scan_begins bs = record { within = omega arith; count = omega arith; so_far = refl }
 
-scan_stops : {bs : List ℕ} {s : Sum} {i : ℕ} → Scanning bs s i → digits_in (drop i bs) ≡ 0 → DigitsAre bs (record { len = i; sum = s })
-scan_stops {bs} {s} {i} t e =
+scan_stops : {bs : List ℕ} {m : Option ℕ} {i : ℕ} → Scanning bs m i → digits_in (drop i bs) ≡ 0 → DigitsAre bs (record { len = i; number = m })
+scan_stops {bs} {m} {i} t e =
     let len : i ≡ digits_in bs = omega (arith, t.count, e) in
-    record { len = len; sum = subst (λ n. SumIs (value_after 0 (take n bs)) s) len t.so_far }
+    record { len = len; number = subst (λ n. m ≡ in_word (value_after 0 (take n bs))) len t.so_far }
 
-module _ {bs : List ℕ} {s : Sum} {i : ℕ} (t : Scanning bs s i) (h : i < length bs) where
+module _ {bs : List ℕ} {m : Option ℕ} {i : ℕ} (t : Scanning bs m i) (h : i < length bs) where
   scan_next : {b : Bool} → is_digit (get_or bs i 0) ≡ b → digits_in (drop i bs) ≡ cond b (suc (digits_in (drop (suc i) bs))) 0
   unfolding digits_in
   scan_next e = ap digits_in (drop-cons bs i 0 h) ∙ ap (λ b. cond b (suc (digits_in (drop (suc i) bs))) 0) e
 
-  pub scan_low : get_or bs i 0 < 48 → DigitsAre bs (record { len = i; sum = s })
-  scan_low l = scan_stops t (scan_next (ap (λ b. b && leb (get_or bs i 0) 57) (lt-leb 48 (get_or bs i 0) l)))
+  pub scan_other : is_digit (get_or bs i 0) ≡ false → DigitsAre bs (record { len = i; number = m })
+  scan_other e = scan_stops t (scan_next e)
 
-  pub scan_high : 57 < get_or bs i 0 → DigitsAre bs (record { len = i; sum = s })
-  scan_high l =
-      scan_stops t
-      (scan_next (ap (λ b. leb 48 (get_or bs i 0) && b) (lt-leb (get_or bs i 0) 57 l) ∙ and-false (leb 48 (get_or bs i 0))))
-
-  pub scan_more : {r : Sum} → 48 ≤ get_or bs i 0 → get_or bs i 0 ≤ 57 → Adds s (get_or bs i 0 - 48) r → Scanning bs r (i + 1)
+  pub scan_more : {r : Option ℕ} → is_digit (get_or bs i 0) ≡ true → Adds m (get_or bs i 0 - 48) r → Scanning bs r (i + 1)
   unfolding value_after
-  scan_more {r} l u k =
+  scan_more {r} d k =
       let c : ℕ = get_or bs i 0 in
-      let d : is_digit c ≡ true = ap₂ (λ a b. a && b) (le-leb 48 c l) (le-leb c 57 u) in
       let more : value_after 0 (take i bs) * 10 + (c - 48) ≡ value_after 0 (take (i + 1) bs) =
       sym
       (ap (λ n. value_after 0 (take n bs)) (add-one i)
@@ -142,15 +78,17 @@ module _ {bs : List ℕ} {s : Sum} {i : ℕ} (t : Scanning bs s i) (h : i < leng
             ∙ ap (λ n. i + n) (scan_next d)
             ∙ count_on i (digits_in (drop (suc i) bs))
             ∙ ap (λ n. i + 1 + digits_in (drop n bs)) (sym (add-one i));
-        so_far = subst (λ n. SumIs n r) more (k (value_after 0 (take i bs)) t.so_far);
+        so_far = k (value_after 0 (take i bs)) t.so_far ∙ ap in_word more;
       }
     where
       count_on : (i n : ℕ) → i + suc n ≡ i + 1 + n
       count_on i n = omega arith
 
-pub scan_ends : {bs : List ℕ} {s : Sum} {i : ℕ} → Scanning bs s i → length bs ≤ i → DigitsAre bs (record { len = i; sum = s })
+pub scan_ends : {bs : List ℕ} {m : Option ℕ} {i : ℕ} → Scanning bs m i → length bs ≤ i → DigitsAre bs (record { len = length bs; number = m })
 unfolding digits_in
-scan_ends {bs} {s} {i} t h = scan_stops t (ap digits_in (drop_of_length-le bs {i = i} h))
+scan_ends {bs} {m} {i} t h =
+    let e : i ≡ length bs = omega (arith, t.within, h) in
+    subst (λ n. DigitsAre bs (record { len = n; number = m })) e (scan_stops t (ap digits_in (drop_of_length-le bs {i = i} h)))
 
 -- Whether so many digits are a numeral, answer by answer.
 module _ (bs : List ℕ) {len : ℕ} (e : len ≡ digits_in bs) where
@@ -185,32 +123,35 @@ module _ (bs : List ℕ) {len : ℕ} (e : len ≡ digits_in bs) where
       go false l = rw l (eq-eqb len 1 (omega (arith, h, ltb-false 1 len l)))
 
 -- No number stands there.
-pub told_none : {stands signed : Bool} {n : Number} {size : ℕ} {r : Told}
-    → (r.is ≡ false) × ((r.fits ≡ false) × ((r.word ≡ 0) × (r.size ≡ 0))) → stands ≡ false → ToldIs stands signed n size r
-told_none {stands} {signed} {n} {size} h e =
+pub told_none : {stands signed : Bool} {n : Number} {size : ℕ} → stands ≡ false → ToldIs stands signed n size (told_of None)
+told_none {stands} {signed} {n} {size} e =
     record {
-      is = h.0 ∙ sym e;
-      fits = h.1.0 ∙ sym (ap (λ b. b && is_word signed n) e);
-      word = h.1.1.0 ∙ sym (ap (λ b. cond (b && is_word signed n) (word_for n) 0) e);
-      bytes = h.1.1.1 ∙ sym (ap (λ b. cond b size 0) e);
+      is = sym e;
+      fits = sym (ap (λ b. b && is_word signed n) e);
+      word = sym (ap (λ b. cond (b && is_word signed n) (word_for n) 0) e);
+      bytes = sym (ap (λ b. cond b size 0) e);
     }
 
 -- One does.
 module _ {stands signed : Bool} {n : Number} {size : ℕ} where
-  told_some : {fits : Bool} {v w k : ℕ} → stands ≡ true → fits ≡ is_word signed n → (fits ≡ true → v ≡ word_for n) → w ≡ cond fits v 0 → k ≡ size
-      → ToldIs stands signed n size (record { is = true; fits = fits; word = w; size = k })
-  told_some {fits} {v} s f h e k =
-      let g : fits ≡ (stands && is_word signed n) = f ∙ sym (ap (λ b. b && is_word signed n) s) in
+  told_some : {w : Option ℕ} {k : ℕ} → stands ≡ true → w ≡ cond (is_word signed n) (Some (word_for n)) None → k ≡ size
+      → ToldIs stands signed n size (told_of (Some (record { word = w; size = k })))
+  told_some {w} s e k =
+      let on : (stands && is_word signed n) ≡ is_word signed n = ap (λ b. b && is_word signed n) s in
       record {
         is = sym s;
-        fits = g;
-        word = e ∙ go fits h ∙ ap (λ b. cond b (word_for n) 0) g;
+        fits = ap is_some e ∙ fits_if (is_word signed n) (word_for n) ∙ sym on;
+        word = ap (λ o. unwrap_or o 0) e ∙ word_if (is_word signed n) (word_for n) ∙ sym (ap (λ b. cond b (word_for n) 0) on);
         bytes = k ∙ sym (ap (λ b. cond b size 0) s);
       }
     where
-      go : (b : Bool) → (b ≡ true → v ≡ word_for n) → cond b v 0 ≡ cond b (word_for n) 0
-      go true h = h refl
-      go false h = refl
+      fits_if : (b : Bool) (v : ℕ) → is_some {T = ℕ} (cond b (Some v) None) ≡ b
+      fits_if true v = refl
+      fits_if false v = refl
+
+      word_if : (b : Bool) (v : ℕ) → unwrap_or {T = ℕ} (cond b (Some v) None) 0 ≡ cond b v 0
+      word_if true v = refl
+      word_if false v = refl
 
   module _ {r : Told} (t : ToldIs stands signed n size r) (h : r.is ≡ true) where
     pub told_fits : r.fits ≡ is_word signed n
@@ -229,43 +170,57 @@ minus_none bs h = ap (λ t. t && not (eqb (get_or bs 0 0) 48)) h
 pub minus_zero : (bs : List ℕ) → get_or bs 0 0 ≡ 48 → (is_numeral bs && not (eqb (get_or bs 0 0) 48)) ≡ false
 minus_zero bs h = ap (λ t. is_numeral bs && not t) (eq-eqb (get_or bs 0 0) 48 h) ∙ and-false (is_numeral bs)
 
+-- A number that was read, if it is at most a word, is one of those that are below the next.
+most_is : (n most next : ℕ) → most + 1 ≡ next → next ≤ word_end → at_most (in_word n) most ≡ cond (ltb n next) (Some n) None
+most_is n most next e h = go (dec_le next n)
+  where
+    go : Dec (next ≤ n) → at_most (in_word n) most ≡ cond (ltb n next) (Some n) None
+    go (yes k) = past (dec_le word_end n) ∙ sym (ap (λ b. cond b (Some n) None) (le-ltb n next k))
+      where
+        past : Dec (word_end ≤ n) → at_most (in_word n) most ≡ None
+        past (yes l) = ap (λ o. at_most o most) (word_beyond l)
+        past (no l) =
+            ap (λ o. at_most o most) (word_fits (omega (arith, l))) ∙ ap (λ b. cond b (Some n) None) (lt-leb n most (omega (arith, e, k)))
+    go (no k) =
+        ap (λ o. at_most o most) (word_fits (omega (arith, h, k)))
+        ∙ ap (λ b. cond b (Some n) None) (le-leb n most (omega (arith, e, k)))
+        ∙ sym (ap (λ b. cond b (Some n) None) (lt-ltb n next (omega (arith, k))))
+
 -- A number with no sign, and one behind its minus.
 word_most : (s : Bool) → cond s (2 ^ 31) word_end ≤ word_end
 word_most true = omega arith
 word_most false = omega arith
 
 module _ (bs : List ℕ) (is : is_numeral bs ≡ true) {d : Digits} (read : DigitsAre bs d) where
-  pub told_plain : {fits : Bool} {w : ℕ} (signed : Bool) (most : ℕ) → most + 1 ≡ cond signed (2 ^ 31) word_end → Compares d.sum most fits
-      → w ≡ cond fits d.sum.value 0
-      → ToldIs (is_numeral bs) signed (number false (value bs)) (1 + digits_in bs)
-      (record { is = true; fits = fits; word = w; size = d.len + 1 })
+  pub told_plain : {w : Option ℕ} (signed : Bool) (most : ℕ) → most + 1 ≡ cond signed (2 ^ 31) word_end → w ≡ at_most d.number most
+      → ToldIs (is_numeral bs) signed (number false (value bs)) (1 + digits_in bs) (told_of (Some (record { word = w; size = d.len + 1 })))
   unfolding is_word word_for
-  told_plain {fits} signed most e c f =
-      let n : ℕ = value bs in
-      let at_most_lem : fits ≡ leb n most = c n read.sum in
+  told_plain signed most e f =
       told_some is
-      (at_most_lem
-      ∙ leb_same n most (suc n) (cond signed (2 ^ 31) word_end) (λ h. omega (arith, h, e)) (λ h. omega (arith, h, e)))
-      (λ y. read.sum.is (read.sum.fits ∙ lt-ltb n word_end (omega (arith, leb-true n most (sym at_most_lem ∙ y), e, word_most signed))))
-      f
+      (f ∙ ap (λ o. at_most o most) read.number ∙ most_is (value bs) most (cond signed (2 ^ 31) word_end) e (word_most signed))
       (omega (arith, read.len))
 
-  pub told_minus : {v w : ℕ} {fits : Bool} → (get_or bs 0 0 ≡ 48 → ⊥) → Compares d.sum (2 ^ 31) fits
-      → v ≡ (word_end - d.sum.value) % word_end → w ≡ cond fits v 0
+  pub told_minus : {w : Option ℕ} → (get_or bs 0 0 ≡ 48 → ⊥) → w ≡ negated (at_most d.number (2 ^ 31))
       → ToldIs (is_numeral bs && not (eqb (get_or bs 0 0) 48)) true (number true (value bs)) (2 + digits_in bs)
-      (record { is = true; fits = fits; word = w; size = d.len + 2 })
+      (told_of (Some (record { word = w; size = d.len + 2 })))
   unfolding is_word word_for
-  told_minus {v} {w} {fits} z c e f =
+  told_minus z f =
       let n : ℕ = value bs in
       let first : eqb (get_or bs 0 0) 48 ≡ false = ne_eqb (get_or bs 0 0) 48 z in
-      let at_most_lem : fits ≡ leb n (2 ^ 31) = c n read.sum in
-      told_some (ap₂ (λ a b. a && not b) is first) at_most_lem
-      (λ y.
-      let l = leb-true n (2 ^ 31) (sym at_most_lem ∙ y) in
-      let s : d.sum.value ≡ n = read.sum.is (read.sum.fits ∙ lt-ltb n word_end (omega (arith, l))) in
-      omega (arith, e, s, l, value_above bs is first))
-      f
+      told_some (ap₂ (λ a b. a && not b) is first)
+      (f
+      ∙ ap (λ o. negated (at_most o (2 ^ 31))) read.number
+      ∙ ap negated (most_is n (2 ^ 31) (2 ^ 31 + 1) refl (omega arith) ∙ ap (λ b. cond b (Some n) None) (sym (leb_ltb n (2 ^ 31))))
+      ∙ below n (leb n (2 ^ 31)) refl (value_above bs is first))
       (omega (arith, read.len))
+    where
+      leb_ltb : (n k : ℕ) → leb n k ≡ ltb n (k + 1)
+      leb_ltb n k = leb_same n k (suc n) (k + 1) (λ h. omega (arith, h)) (λ h. omega (arith, h))
+
+      below : (n : ℕ) (b : Bool) → leb n (2 ^ 31) ≡ b → 0 < n
+          → negated (cond b (Some n) None) ≡ cond b (Some (word_end - n)) None
+      below n true l h = ap Some (mod-eq_of_lt (omega (arith, leb-true n (2 ^ 31) l, h)))
+      below n false l h = refl
 
 -- A number by its first byte.
 pub number_none : (signed : Bool) (bs : List ℕ) → length bs ≡ 0 → is_number signed bs ≡ false
@@ -273,30 +228,19 @@ unfolding is_number is_numeral digits_in
 number_none signed [] h = refl
 number_none signed (b ∷ bs) h = absurd (omega (arith, h))
 
-pub number_unsigned : (signed : Bool) (bs : List ℕ) → signed ≡ false → get_or bs 0 0 ≡ 45 → is_number signed bs ≡ false
-unfolding is_number
-number_unsigned signed bs h e = rw (eq-eqb (get_or bs 0 0) 45 e, h)
+-- The byte and what is behind it.
+module _ {bs rest : List ℕ} {b : ℕ} (e : bs ≡ b ∷ rest) (signed : Bool) where
+  pub number_unsigned : signed ≡ false → b ≡ 45 → is_number signed bs ≡ false
+  unfolding is_number
+  number_unsigned h k = rw (e, k, h)
 
-pub number-plain : {r : Told} (signed : Bool) (bs : List ℕ) → (get_or bs 0 0 ≡ 45 → ⊥)
-    → ToldIs (is_numeral bs) signed (number false (value bs)) (1 + digits_in bs) r
-    → ToldIs (is_number signed bs) signed (number_in bs) (number_size bs) r
-unfolding is_number number_in number_size
-number-plain signed bs n t = rw (ne_eqb (get_or bs 0 0) 45 n) t
+  pub number-plain : {r : Told} → (b ≡ 45 → ⊥) → ToldIs (is_numeral bs) signed (number false (value bs)) (1 + digits_in bs) r
+      → ToldIs (is_number signed bs) signed (number_in bs) (number_size bs) r
+  unfolding is_number number_in number_size
+  number-plain n t = let f : has_minus bs ≡ false = ap has_minus e ∙ ne_eqb b 45 n in rw f t
 
-minus_front : {r : Told} (signed : Bool) (bs : List ℕ) → signed ≡ true → get_or bs 0 0 ≡ 45
-    → ToldIs (is_numeral (drop 1 bs) && not (eqb (get_or (drop 1 bs) 0 0) 48)) true (number true (value (drop 1 bs)))
-    (2 + digits_in (drop 1 bs)) r
-    → ToldIs (is_number signed bs) signed (number_in bs) (number_size bs) r
-unfolding is_number number_in number_size
-minus_front signed [] h e t = absurd (omega (arith, e))
-minus_front signed (b ∷ bs) h e t = rw (eq-eqb b 45 e, h) t
-
--- What is lent behind the minus is all but the first byte.
-pub number_minus : {r : Told} {cs : List ℕ} (signed : Bool) (bs : List ℕ) → signed ≡ true → get_or bs 0 0 ≡ 45
-    → cs ≡ take (length bs - 1) (drop 1 bs)
-    → ToldIs (is_numeral cs && not (eqb (get_or cs 0 0) 48)) true (number true (value cs)) (2 + digits_in cs) r
-    → ToldIs (is_number signed bs) signed (number_in bs) (number_size bs) r
-number_minus {r} signed bs h e c t =
-    let tail = c ∙ take_all (length bs - 1) (drop 1 bs) (omega (arith, length-drop 1 bs)) in
-    minus_front signed bs h e
-    (subst (λ l. ToldIs (is_numeral l && not (eqb (get_or l 0 0) 48)) true (number true (value l)) (2 + digits_in l) r) tail t)
+  pub number_minus : {r : Told} → signed ≡ true → b ≡ 45
+      → ToldIs (is_numeral rest && not (eqb (get_or rest 0 0) 48)) true (number true (value rest)) (2 + digits_in rest) r
+      → ToldIs (is_number signed bs) signed (number_in bs) (number_size bs) r
+  unfolding is_number number_in number_size
+  number_minus h k t = rw (e, k, h) t

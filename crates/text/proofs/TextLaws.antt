@@ -4,11 +4,12 @@ use Prim.Native.Nat.{ℕ, ◌+◌, ◌-◌, ◌/◌, ◌%◌, ◌^◌, ◌<◌, 
 use native.Mathlib.Omega.{arith}
 use native.Mathlib.Numerals.{add-one}
 use native.Mathlib.Nat.{mod-eq_of_lt}
-use mathlib.Core.Path.{◌≡◌, refl, sym, ap, ◌∙◌}
-use mathlib.Core.Bool.{Bool, true, false, not}
+use mathlib.Core.Path.{◌≡◌, sym, ap, ◌∙◌}
+use mathlib.Core.Bool.{Bool, true, false}
 use mathlib.Core.List.{List, [], ◌∷◌, ◌++◌, append_assoc, append-nil}
-use borrow.Author.Tests.{lt-ltb, le-ltb, not-true, not-false}
-use lib.ListN.{length, take, drop, get_or, length-take}
+use mathlib.Core.Logic.{◌⊎◌, inl, inr}
+use borrow.Author.Tests.{lt-ltb, le-ltb}
+use lib.ListN.{length, take, get_or}
 use lib.Seq.{take-suc, take_all}
 use Rattle.protocol.specs.Numbers.{word_end}
 use Rattle.protocol.specs.Buffer.{farthest, Laid}
@@ -27,17 +28,16 @@ pub laid_more : {at r r' n : ℕ} {old mid new : List ℕ} → length old < fart
     → Laid at (decimal (n / 10)) old r mid → Laid r (digit (n % 10) ∷ []) mid r' new → Laid at (decimal n) old r' new
 laid_more {n = n} h k p q = laid_as (sym (decimal_more n k)) (laid_join h p q)
 
--- A word, signed or not: with no sign, and with a minus where it is below zero.
+-- A word, signed or not: with no minus, and with one where it is below zero.
 module _ (s : Bool) (w : ℕ) {at : ℕ} {old : List ℕ} where
-  pub laid_plain : {r : ℕ} {new : List ℕ} → not s ≡ true → Laid at (decimal w) old r new → Laid at (numeral (number_of s w)) old r new
-  laid_plain h p = laid_as (sym (plain-numeral s w (not-true s h))) p
+  pub laid_plain : {r : ℕ} {new : List ℕ} → (s ≡ false) ⊎ ((s ≡ true) × (w ≤ 2147483647)) → Laid at (decimal w) old r new
+      → Laid at (numeral (number_of s w)) old r new
+  laid_plain h p =
+      laid_as (sym (elim h [ inl e ↦ plain-numeral s w e | inr k ↦ low_numeral s w (omega (arith, k.1)) ])) p
 
-  pub laid_low : {r : ℕ} {new : List ℕ} → w < 2 ^ 31 → Laid at (decimal w) old r new → Laid at (numeral (number_of s w)) old r new
-  laid_low h p = laid_as (sym (low_numeral s w h)) p
-
-  pub laid_high : {r r' m : ℕ} {mid new : List ℕ} → length old < farthest → not s ≡ false → 2 ^ 31 ≤ w → m ≡ word_end - w
+  pub laid_high : {r r' m : ℕ} {mid new : List ℕ} → length old < farthest → s ≡ true → 2 ^ 31 ≤ w → m ≡ word_end - w
       → Laid at (45 ∷ []) old r mid → Laid r (decimal m) mid r' new → Laid at (numeral (number_of s w)) old r' new
-  laid_high l h k e p q = laid_as (ap (λ n. 45 ∷ decimal n) e ∙ sym (high_numeral s w (not-false s h) k)) (laid_join l p q)
+  laid_high l h k e p q = laid_as (ap (λ n. 45 ∷ decimal n) e ∙ sym (high_numeral s w h k)) (laid_join l p q)
 
 -- The first i of some bytes told.
 pub record Telling (text : List ℕ → List ℕ) (bs old : List ℕ) (at : ℕ) (out : List ℕ) (next i : ℕ) : Type 0 where
@@ -79,29 +79,12 @@ module _ (bs old : List ℕ) (at : ℕ) where
       → Laid next (hex_byte (get_or bs i 0)) out next' out' → Telling hex bs old at out' next' (i + 1)
   hex_more {i = i} h t k p = tell_more hex bs old at h t k (hex_snoc (take i bs) (get_or bs i 0)) p
 
--- A path, dotted: its first number, and behind it the others, of which a loop tells those of the first i numbers.
-abbrev pub others : List ℕ → List ℕ
-others ns = dotted_on (drop 1 ns)
-
+-- A path, dotted: its first number, and behind it the others, of which a loop tells the first i.
 dots_snoc : (ns : List ℕ) (n : ℕ) → dotted_on (ns ++ n ∷ []) ≡ dotted_on ns ++ 46 ∷ decimal n
 unfolding dotted_on
 dots_snoc [] n = ap (λ l. 46 ∷ l) (append-nil (decimal n))
 dots_snoc (m ∷ ns) n =
     ap (λ l. 46 ∷ (decimal m ++ l)) (dots_snoc ns n) ∙ ap (λ l. 46 ∷ l) (sym (append_assoc (decimal m) (dotted_on ns) (46 ∷ decimal n)))
-
-others_snoc : (ns : List ℕ) (n : ℕ) → 0 < length ns → others (ns ++ n ∷ []) ≡ others ns ++ 46 ∷ decimal n
-others_snoc [] n h = absurd (omega (arith, h))
-others_snoc (m ∷ ns) n h = dots_snoc ns n
-
-others_one : (ns : List ℕ) → others (take 1 ns) ≡ []
-unfolding dotted_on
-others_one [] = refl
-others_one (n ∷ ns) = refl
-
-dotted_some : (ns : List ℕ) → 0 < length ns → dotted ns ≡ decimal (get_or ns 0 0) ++ others ns
-unfolding dotted
-dotted_some [] h = absurd (omega (arith, h))
-dotted_some (n ∷ ns) h = refl
 
 pub dotted_none : {old : List ℕ} {at r : ℕ} (ns : List ℕ) → length ns ≡ 0 → r ≡ min farthest (at + 0) → Laid at (dotted ns) old r old
 unfolding dotted
@@ -109,18 +92,22 @@ dotted_none {old} [] h e = laid_nil old e
 dotted_none (n ∷ ns) h e = absurd (omega (arith, h))
 
 module _ (ns old : List ℕ) (at : ℕ) where
-  pub dots_begin : 0 < length ns → at ≤ farthest → Telling others ns old at old at 1
-  dots_begin h k = record { within = omega (arith, h); laid = laid_as (sym (others_one ns)) (laid_nil old (omega (arith, k))) }
+  pub dots_begin : at ≤ farthest → Telling dotted_on ns old at old at 0
+  unfolding dotted_on
+  dots_begin k = record { within = omega arith; laid = laid_nil old (omega (arith, k)) }
 
-  pub dots_more : {out mid out' : List ℕ} {next dot next' i : ℕ} → length old < farthest → 0 < i → Telling others ns old at out next i → i < length ns
-      → Laid next (46 ∷ []) out dot mid → Laid dot (decimal (get_or ns i 0)) mid next' out' → Telling others ns old at out' next' (i + 1)
-  dots_more {i = i} h k t l p q =
-      tell_more others ns old at h t l (others_snoc (take i ns) (get_or ns i 0) (omega (arith, k, l, length-take i ns)))
-      (laid_join (omega (arith, h, laid_same t.laid)) p q)
+  pub dots_more : {out mid out' : List ℕ} {next dot next' i n : ℕ} → length old < farthest → Telling dotted_on ns old at out next i → i < length ns
+      → Laid next (46 ∷ []) out dot mid → n ≡ get_or ns i 0 → Laid dot (decimal n) mid next' out'
+      → Telling dotted_on ns old at out' next' (i + 1)
+  dots_more {i = i} h t l p e q =
+      tell_more dotted_on ns old at h t l (dots_snoc (take i ns) (get_or ns i 0))
+      (laid_join (omega (arith, h, laid_same t.laid)) p (laid_as (ap decimal e) q))
 
-pub dotted-ends : {at first next i : ℕ} {old mid out : List ℕ} (ns : List ℕ) → length old < farthest → 0 < length ns
-    → Laid at (decimal (get_or ns 0 0)) old first mid → Telling others ns mid first out next i → length ns ≤ i → Laid at (dotted ns) old next out
-dotted-ends {first = first} {mid = mid} ns h k p t l = laid_as (sym (dotted_some ns k)) (laid_join h p (tell_ends others ns mid first t l))
+pub dotted-ends : {at first next i n m : ℕ} {old mid out ns : List ℕ} (path : List ℕ) → length old < farthest → path ≡ n ∷ ns → m ≡ n
+    → Laid at (decimal m) old first mid → Telling dotted_on ns mid first out next i → length ns ≤ i → Laid at (dotted path) old next out
+unfolding dotted
+dotted-ends {first = first} {mid = mid} {ns = ns} path h k e p t l =
+    laid_as (sym (ap dotted k)) (laid_join h (laid_as (ap decimal e) p) (tell_ends dotted_on ns mid first t l))
 
 -- A key with "=", a value, and the end of the line.
 pub line_laid : {at named told r : ℕ} {old mid mid' new : List ℕ} (key value : List ℕ) → length old < farthest

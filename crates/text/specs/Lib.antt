@@ -1,2 +1,3 @@
--- What reading text hands back.
+-- What reading text hands back, and what a call that writes a text comes to.
 pub mod Read
+pub mod Unwritten

@@ -5,6 +5,7 @@
 pub mod line;
 pub mod number;
 pub mod read;
+pub mod unwritten;
 
 ghost use Rattle.std.specs.Prelude.{◌≡◌, ◌+◌, min};
 ghost use Rattle.protocol.specs.Buffer.{farthest, Laid};
@@ -18,13 +19,7 @@ const FARTHEST: usize = 9223372036854775808;
 fn behind(at: usize, n: usize) -> usize
     ensures { result ≡ min farthest (at + n) }
 {
-    if FARTHEST <= at {
-        return FARTHEST;
-    }
-    if FARTHEST - at <= n {
-        return FARTHEST;
-    }
-    at + n
+    FARTHEST.min(at.saturating_add(n))
 }
 
 // Bytes as they are.

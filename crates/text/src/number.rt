@@ -4,11 +4,14 @@ ghost use Rattle.protocol.specs.Buffer.{Laid};
 ghost use Rattle.protocol.specs.Signed.{number_of, numeral};
 ghost use Rattle.protocol.specs.Text.{hex_digit, hex_byte, hex, decimal, dotted};
 
+// The highest word that is no number below zero.
+const HIGHEST: u32 = 0x7FFF_FFFF;
+
 // A number in decimal, with no leading zero.
 pub fn put_decimal(n: u32, out: &mut [u8], at: usize) -> usize
     ensures { Laid at (decimal n) out.old result out.new }
 {
-    let last = [48 + (n % 10) as u8];
+    let last = [b'0' + (n % 10) as u8];
     if n < 10 {
         return super::put_all(&last, out, at);
     }
@@ -20,29 +23,24 @@ pub fn put_decimal(n: u32, out: &mut [u8], at: usize) -> usize
 pub fn put_word(signed: bool, w: u32, out: &mut [u8], at: usize) -> usize
     ensures { Laid at (numeral (number_of signed w)) out.old result out.new }
 {
-    if !signed {
-        return put_decimal(w, out, at);
-    }
-    if w < 2147483648 {
+    if !signed || w <= HIGHEST {
         return put_decimal(w, out, at);
     }
     let next = super::put_all(b"-", out, at);
-    put_decimal(u32::MAX - w + 1, out, next)
+    put_decimal(w.wrapping_neg(), out, next)
 }
 
 // A path, dotted.
 pub fn put_dotted(path: &[u8], out: &mut [u8], at: usize) -> usize
     ensures { Laid at (dotted path.now) out.old result out.new }
 {
-    if path.len() == 0 {
+    let Some((first, others)) = path.split_first() else {
         return super::behind(at, 0);
-    }
-    let mut next = put_decimal(path[0] as u32, out, at);
-    let mut i = 1;
-    while i < path.len() {
+    };
+    let mut next = put_decimal(u32::from(*first), out, at);
+    for n in others {
         next = super::put_all(b".", out, next);
-        next = put_decimal(path[i] as u32, out, next);
-        i += 1;
+        next = put_decimal(u32::from(*n), out, next);
     }
     next
 }
@@ -53,18 +51,16 @@ fn hex_digit(n: u8) -> u8
     ensures { result ≡ hex_digit n }
 {
     if n < 10 {
-        return 48 + n;
+        return b'0' + n;
     }
-    55 + n
+    b'A' - 10 + n
 }
 
 // A byte in two hex digits.
 pub fn hex_byte(b: u8) -> [u8; 2]
     ensures { result ≡ hex_byte b }
 {
-    let high = hex_digit(b / 16);
-    let low = hex_digit(b % 16);
-    [high, low]
+    [hex_digit(b / 16), hex_digit(b % 16)]
 }
 
 // Bytes in hex.
@@ -72,10 +68,8 @@ pub fn put_hex(bs: &[u8], out: &mut [u8], at: usize) -> usize
     ensures { Laid at (hex bs.now) out.old result out.new }
 {
     let mut next = super::behind(at, 0);
-    let mut i = 0;
-    while i < bs.len() {
-        next = super::put_all(&hex_byte(bs[i]), out, next);
-        i += 1;
+    for b in bs {
+        next = super::put_all(&hex_byte(*b), out, next);
     }
     next
 }

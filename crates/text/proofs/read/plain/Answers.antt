@@ -1,18 +1,17 @@
 -- `text::read::plain` meets its contract. Assumes nothing.
 use native.Mathlib.Omega.{arith}
-use mathlib.Core.Path.{sym, ◌∙◌}
+use mathlib.Core.Path.{sym}
 use Rattle.protocol.proofs.SignedLaws.{digits_inside}
 use Rattle.text.proofs.ReadLaws.{told_none, told_plain}
 use Rattle.text.proofs.read.plain.Goals as goal
 
 pub returns-then-not-is_numeral : goal.returns-then-not-is_numeral
-returns-then-not-is_numeral c = told_none c.nothing.ensures (sym c.is_numeral.ensures ∙ c.if-not-is_numeral.true)
+returns-then-not-is_numeral c = told_none (sym c.if-not-is_numeral.ensures)
 
 pub overflow_add-result : goal.overflow_add-result
 overflow_add-result c = omega (arith, c.read_digits-d.ensures.len, digits_inside c.args.bs.now)
 
 pub returns : goal.returns
 returns c =
-    told_plain c.args.bs.now (sym c.is_numeral.ensures ∙ c.if-not-is_numeral.false)
-    c.read_digits-d.ensures c.args.signed
-    c.highest.result c.highest.ensures c.is_at_most-fits.ensures c.word_if.ensures
+    told_plain c.args.bs.now (sym c.if-not-is_numeral.ensures) c.read_digits-d.ensures c.args.signed c.highest.result c.highest.ensures
+    c.at_most.ensures
