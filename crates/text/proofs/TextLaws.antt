@@ -1,6 +1,6 @@
 -- Text laid as far as there is room: a number digit by digit, bytes told one after the other, and a line.
 -- Assumes nothing.
-use Prim.Native.Nat.{ℕ, ◌+◌, ◌-◌, ◌/◌, ◌%◌, ◌^◌, ◌<◌, ◌≤◌, min}
+use Prim.Native.Nat.{ℕ, ◌+◌, ◌-◌, ◌/◌, ◌%◌, ◌^◌, ◌<◌, ◌≤◌}
 use native.Mathlib.Omega.{arith}
 use native.Mathlib.Numerals.{add-one}
 use native.Mathlib.Nat.{mod-eq_of_lt}
@@ -71,9 +71,9 @@ unfolding each
 hex_snoc bs b = each_append hex_byte bs (b ∷ [])
 
 module _ (bs old : List ℕ) (at : ℕ) where
-  pub hex-begins : {next : ℕ} → next ≡ min farthest (at + 0) → Telling hex bs old at old next 0
+  pub hex-begins : at ≤ farthest → Telling hex bs old at old at 0
   unfolding each
-  hex-begins e = record { within = omega arith; laid = laid_nil old e }
+  hex-begins h = record { within = omega arith; laid = laid_nil old (omega (arith, h)) }
 
   pub hex_more : {out out' : List ℕ} {next next' i : ℕ} → length old < farthest → Telling hex bs old at out next i → i < length bs
       → Laid next (hex_byte (get_or bs i 0)) out next' out' → Telling hex bs old at out' next' (i + 1)
@@ -86,9 +86,9 @@ dots_snoc [] n = ap (λ l. 46 ∷ l) (append-nil (decimal n))
 dots_snoc (m ∷ ns) n =
     ap (λ l. 46 ∷ (decimal m ++ l)) (dots_snoc ns n) ∙ ap (λ l. 46 ∷ l) (sym (append_assoc (decimal m) (dotted_on ns) (46 ∷ decimal n)))
 
-pub dotted_none : {old : List ℕ} {at r : ℕ} (ns : List ℕ) → length ns ≡ 0 → r ≡ min farthest (at + 0) → Laid at (dotted ns) old r old
+pub dotted_none : {old : List ℕ} {at : ℕ} (ns : List ℕ) → length ns ≡ 0 → at ≤ farthest → Laid at (dotted ns) old at old
 unfolding dotted
-dotted_none {old} [] h e = laid_nil old e
+dotted_none {old} [] h e = laid_nil old (omega (arith, e))
 dotted_none (n ∷ ns) h e = absurd (omega (arith, h))
 
 module _ (ns old : List ℕ) (at : ℕ) where
@@ -109,10 +109,11 @@ unfolding dotted
 dotted-ends {first = first} {mid = mid} {ns = ns} path h k e p t l =
     laid_as (sym (ap dotted k)) (laid_join h (laid_as (ap decimal e) p) (tell_ends dotted_on ns mid first t l))
 
--- A key with "=", a value, and the end of the line.
-pub line_laid : {at named told r : ℕ} {old mid mid' new : List ℕ} (key value : List ℕ) → length old < farthest
-    → Laid at (key ++ 61 ∷ []) old named mid → Laid named value mid told mid' → Laid told (10 ∷ []) mid' r new
+-- A key, "=", a value, and the end of the line.
+pub line_laid : {at keyed named told r : ℕ} {old mid mid' mid'' new : List ℕ} (key value : List ℕ) → length old < farthest
+    → Laid at key old keyed mid → Laid keyed (61 ∷ []) mid named mid' → Laid named value mid' told mid'' → Laid told (10 ∷ []) mid'' r new
     → Laid at (line key value) old r new
 unfolding line
-line_laid key value h p q l =
-    laid_as (append_assoc (key ++ 61 ∷ []) value (10 ∷ []) ∙ append_assoc key (61 ∷ []) (value ++ 10 ∷ [])) (laid_join h (laid_join h p q) l)
+line_laid key value h p e q l =
+    laid_as (append_assoc (key ++ 61 ∷ []) value (10 ∷ []) ∙ append_assoc key (61 ∷ []) (value ++ 10 ∷ []))
+    (laid_join h (laid_join h (laid_join h p e) q) l)

@@ -1,26 +1,27 @@
 // Lines: a key, "=", a value, and the 0Ah that ends it.
-ghost use Rattle.std.specs.Prelude.{ℕ, List, [], ◌∷◌, ◌++◌};
-ghost use Rattle.protocol.specs.Buffer.{Laid};
+ghost use Rattle.std.specs.Prelude.{ℕ, List};
 ghost use Rattle.protocol.specs.Signed.{number_of, numeral};
 ghost use Rattle.protocol.specs.Text.{hex, decimal, dotted, line};
+ghost use Rattle.text.specs.Lays.{Lays};
 
 use super::number;
+use super::output::Output;
 
 // What may stand behind "=" in a line.
 pub trait Value {
     // What is put of it.
     ghost shown: { Self → List ℕ };
 
-    fn put(self, out: &mut [u8], at: usize) -> usize
-        ensures { Laid at (shown self) out.old result out.new };
+    fn put(self, output: &mut Output)
+        ensures { Lays (shown self) output.old output.new };
 }
 
 // A text, as it is.
 impl<'a> Value for &'a [u8] {
     ghost shown = { λ text. text.now };
 
-    fn put(self, out: &mut [u8], at: usize) -> usize {
-        super::put_all(self, out, at)
+    fn put(self, output: &mut Output) {
+        output.put_all(self);
     }
 }
 
@@ -28,8 +29,8 @@ impl<'a> Value for &'a [u8] {
 impl Value for u32 {
     ghost shown = { λ n. decimal n };
 
-    fn put(self, out: &mut [u8], at: usize) -> usize {
-        number::put_decimal(self, out, at)
+    fn put(self, output: &mut Output) {
+        number::put_decimal(self, output);
     }
 }
 
@@ -43,8 +44,8 @@ pub struct Word {
 impl Value for Word {
     ghost shown = { λ w. numeral (number_of w.signed w.word) };
 
-    fn put(self, out: &mut [u8], at: usize) -> usize {
-        number::put_word(self.signed, self.word, out, at)
+    fn put(self, output: &mut Output) {
+        number::put_word(self.signed, self.word, output);
     }
 }
 
@@ -55,8 +56,8 @@ pub struct Dotted<'a>(pub &'a [u8]);
 impl<'a> Value for Dotted<'a> {
     ghost shown = { λ path. dotted path.0.now };
 
-    fn put(self, out: &mut [u8], at: usize) -> usize {
-        number::put_dotted(self.0, out, at)
+    fn put(self, output: &mut Output) {
+        number::put_dotted(self.0, output);
     }
 }
 
@@ -67,24 +68,19 @@ pub struct Hex<'a>(pub &'a [u8]);
 impl<'a> Value for Hex<'a> {
     ghost shown = { λ bs. hex bs.0.now };
 
-    fn put(self, out: &mut [u8], at: usize) -> usize {
-        number::put_hex(self.0, out, at)
+    fn put(self, output: &mut Output) {
+        number::put_hex(self.0, output);
     }
 }
 
-// What stands before the value.
-fn put_key(key: &[u8], out: &mut [u8], at: usize) -> usize
-    ensures { Laid at (key.now ++ 61 ∷ []) out.old result out.new }
-{
-    let named = super::put_all(key, out, at);
-    super::put_all(b"=", out, named)
-}
-
-// A line.
-pub fn put_line<V: Value>(key: &[u8], value: V, out: &mut [u8], at: usize) -> usize
-    ensures { Laid at (line key.now (V.shown value)) out.old result out.new }
-{
-    let named = put_key(key, out, at);
-    let told = value.put(out, named);
-    super::put_all(b"\n", out, told)
+impl<'a> Output<'a> {
+    // A line.
+    pub fn put_line<V: Value>(&mut self, key: &[u8], value: V)
+        ensures { Lays (line key.now (V.shown value)) self.old self.new }
+    {
+        self.put_all(key);
+        self.put_all(b"=");
+        value.put(self);
+        self.put_all(b"\n");
+    }
 }

@@ -1,12 +1,12 @@
 -- `text::number::put_decimal`, which calls itself, meets its contract. Assumes nothing.
-use Rattle.std.proofs.Common.{arith}
 use Rattle.text.proofs.TextLaws.{laid_small, laid_more}
 use Rattle.text.proofs.number.+put_decimal.Goals as goal
-
-pub returns-then-n-lt10 : goal.returns-then-n-lt10
-returns-then-n-lt10 t c = laid_small c.if-n-lt10.true c.put_all.ensures
+use Rattle.text.proofs.number.+put_decimal.Goals.{then-n-ge10, else-n-ge10}
 
 pub returns : goal.returns
 returns t c =
-    laid_more {r = c.put_decimal-next.result} {mid = c.put_decimal-next.new.out} (omega arith) c.if-n-lt10.false
-    c.put_decimal-next.ensures c.put_all-2.ensures
+    elim c.if-n-ge10.branch [
+      | then-n-ge10 w ↦
+          laid_more c.args.output.now.short w.if-n-ge10.true w.put_decimal.ensures (rw w.output-is at c.put_all.ensures)
+      | else-n-ge10 w ↦ laid_small w.if-n-ge10.false (rw w.output-is at c.put_all.ensures)
+    ]

@@ -1,23 +1,22 @@
 -- `text::number::put_dotted` meets its contract. Assumes nothing.
-use native.Mathlib.Omega.{arith}
-use Rattle.protocol.proofs.LayLaws.{laid_same}
 use Rattle.text.proofs.TextLaws.{dotted_none, dots_begin, dots_more, dotted-ends}
 use Rattle.text.proofs.number.put_dotted.Goals as goal
 
 pub returns-in_default : goal.returns-in_default
-returns-in_default c = dotted_none c.args.path.now c.in_default.ensures.cases c.behind.ensures
+returns-in_default c = dotted_none c.args.path.now c.in_default.ensures.cases c.args.output.now.place
 
 pub loop-n-init : goal.loop-n-init
 loop-n-init c =
-    dots_begin c.in-Some.others.now c.put_decimal-next.new.out c.put_decimal-next.result (omega (arith, c.put_decimal-next.ensures.next))
+    let output = c.put_decimal.new.output in
+    dots_begin c.in-Some.others.now output.bytes.now output.at output.place
 
 pub loop-n-preserved : goal.loop-n-preserved
 loop-n-preserved c =
-    dots_more c.in-Some.others.now c.put_decimal-next.new.out c.put_decimal-next.result
-    (omega (arith, laid_same c.put_decimal-next.ensures))
-    c.loop-n.invariant c.loop-n-test.true c.put_all-next.ensures c.from-in-loop-n.ensures c.put_decimal-next-in-loop-n.ensures
+    let output = c.put_decimal.new.output in
+    dots_more c.in-Some.others.now output.bytes.now output.at output.short
+    c.loop-n.invariant c.loop-n-test.true c.put_all.ensures c.from-in-loop-n.ensures c.put_decimal-in-loop-n.ensures
 
 pub returns : goal.returns
 returns c =
-    dotted-ends c.args.path.now (omega arith) c.in-Some.ensures.cases.0 c.from.ensures c.put_decimal-next.ensures
+    dotted-ends c.args.path.now c.args.output.now.short c.in-Some.ensures.cases.0 c.from.ensures c.put_decimal.ensures
     c.loop-n.invariant c.loop-n-test.false

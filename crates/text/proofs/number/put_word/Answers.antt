@@ -8,5 +8,5 @@ returns-then-not-signed c = laid_plain c.args.signed c.args.w c.then-not-signed.
 
 pub returns : goal.returns
 returns c =
-    laid_high c.args.signed c.args.w (omega arith) c.if-not-signed.false (omega arith) (omega arith) c.put_all-next.ensures
+    laid_high c.args.signed c.args.w c.args.output.now.short c.if-not-signed.false (omega arith) (omega arith) c.put_all.ensures
     c.put_decimal-2.ensures

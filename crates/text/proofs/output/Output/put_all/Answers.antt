@@ -1,0 +1,7 @@
+-- `text::output::Output::put_all` meets its contract. Assumes nothing.
+use native.Mathlib.Omega.{arith}
+use Rattle.protocol.proofs.LayLaws.{put_laid}
+use Rattle.text.proofs.output.Output.put_all.Goals as goal
+
+pub returns : goal.returns
+returns c = put_laid c.put_all-self.ensures (omega arith)
