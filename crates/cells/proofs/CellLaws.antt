@@ -20,6 +20,9 @@ use Rattle.protocol.specs.Tree.{Property, Tree, Cell, cell_in, cells_sound, is_l
 use Rattle.protocol.proofs.TestLaws.{and_left, and_right, and_both}
 use Rattle.protocol.proofs.ListLaws.{number_word, word_number, bytes_cons, bytes_drop, bytes_none, bytes_append}
 use Rattle.protocol.proofs.BufferLaws.{set_put, put_four, put_behind, length_put}
+use Rattle.protocol.specs.declared.Refusal.{Refusal}
+use Rattle.protocol.specs.Refusal.{refusal_number}
+use Rattle.protocol.proofs.RefusalLaws.{refusal_some}
 use Rattle.tree.specs.Seen.{word_at, records_from, same, seen}
 use Rattle.soundness.specs.Sound.{is_tree}
 use Rattle.cells.specs.Cells.{cell_size, mark_of, cell_form, cells_form, cell_seen, cells_in, has_cells, cells_of, with_word, with_mark}
@@ -408,6 +411,10 @@ module _ (tree cells : List ℕ) where
       go true q = absurd (u (e ∙ rw q))
       go false q = q
 
+  pub refused_unsound : {n : ℕ} → n ≡ lent_number tree cells → (n ≡ done → ⊥) → n ≡ unsound
+  unfolding lent_number
+  refused_unsound e u = e ∙ rw (lent_refused e u)
+
   pub lent_form : is_lent tree cells ≡ true → cells ≡ cells_form (cells_in cells)
   unfolding is_lent
   lent_form e =
@@ -415,9 +422,10 @@ module _ (tree cells : List ℕ) where
       form_of cells (and_left (has_cells cells) _ rest)
 
 module _ (tree cells : List ℕ) (k w : ℕ) (ready : Bool) where
-  pub posts_unsound : {n : ℕ} → n ≡ lent_number tree cells → (n ≡ done → ⊥) → Updates (post_in tree cells k w ready) unsound cells
+  pub posts_refused : (e : Refusal) → refusal_number e ≡ lent_number tree cells → Updates (post_in tree cells k w ready) (refusal_number e) cells
   unfolding post_in
-  posts_unsound e h = rw (lent_refused tree cells e h) (record { number = refl; bytes = refl })
+  posts_refused e h =
+      rw (lent_refused tree cells h (refusal_some e)) (record { number = refused_unsound tree cells h (refusal_some e); bytes = refl })
 
   pub posts_other : is_lent tree cells ≡ true → is_live (property_in (seen tree) k) ≡ false → Updates (post_in tree cells k w ready) not_live cells
   unfolding post_in

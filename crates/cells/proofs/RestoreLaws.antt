@@ -11,10 +11,13 @@ use lib.Seq.{take_all}
 use Rattle.protocol.specs.Numbers.{done, unsound}
 use Rattle.protocol.specs.Tree.{Property, Cell, is_live, property_in, cell_in, unready, restored_cell, restored}
 use Rattle.protocol.proofs.RuleLaws.{property_at, restored-length}
+use Rattle.protocol.specs.declared.Refusal.{Refusal}
+use Rattle.protocol.specs.Refusal.{refusal_number}
+use Rattle.protocol.proofs.RefusalLaws.{refusal_some}
 use Rattle.tree.specs.Seen.{seen}
 use Rattle.cells.specs.Cells.{cells_form, cells_in, with_mark}
 use Rattle.cells.specs.Lent.{is_lent, lent_number, restore_in, Updates}
-use Rattle.cells.proofs.CellLaws.{cells_size_lem, lent_form, lent_refused, mark-stored}
+use Rattle.cells.proofs.CellLaws.{cells_size_lem, lent_form, lent_refused, refused_unsound, mark-stored}
 
 -- One property more.
 step_live : (ps : List Property) (cs : List Cell) (k : ℕ) → k < length ps → is_live (property_at ps k) ≡ true
@@ -96,6 +99,7 @@ module _ (tree old : List ℕ) where
         bytes = r.bytes ∙ ap (λ l. cells_form (restored l (cells_in old))) (take_all k (seen tree).properties h);
       })
 
-  pub restore_unsound : {n : ℕ} → n ≡ lent_number tree old → (n ≡ done → ⊥) → Updates (restore_in tree old) unsound old
+  pub restore_refused : (e : Refusal) → refusal_number e ≡ lent_number tree old → Updates (restore_in tree old) (refusal_number e) old
   unfolding restore_in
-  restore_unsound e h = rw (lent_refused tree old e h) (record { number = refl; bytes = refl })
+  restore_refused e h =
+      rw (lent_refused tree old h (refusal_some e)) (record { number = refused_unsound tree old h (refusal_some e); bytes = refl })

@@ -6,8 +6,6 @@ use Rattle.protocol.specs.Tree.{property_in, cell_in, reading, restored, post}
 use Rattle.tree.specs.Seen.{seen}
 use Rattle.soundness.specs.Sound.{is_tree}
 use Rattle.cells.specs.Cells.{cells_form, cells_in, has_cells}
-use Rattle.cells.specs.declared.Reading.{Reading}
-use Rattle.cells.specs.declared.Reading.TheVariants as reading-is
 
 -- 01, Numbers returned, row 1: bytes stand for a sound tree, and others for cells, one for each property.
 unfoldable pub is_lent : List ℕ → List ℕ → Bool
@@ -42,11 +40,6 @@ restore_in tree cells =
 pub record Updates (what : Update) (n : ℕ) (cells : List ℕ) : Type 0 where
   pub number : n ≡ what.number
   pub bytes : cells ≡ what.bytes
-
--- A number to read, or none, as code hands it back.
-abbrev pub reading_of : Option ℕ → Reading
-reading_of none = reading-is.Nothing
-reading_of (some n) = reading-is.Word n
 
 -- House: a reading asked for by place, by 01's rows 1 and 12 (it has no number to read), with 02, section 7's 16 (no property has the
 -- place) between them; else 0 and the number.

@@ -3,9 +3,9 @@ ghost use Rattle.std.specs.Prelude.{◌≡◌};
 ghost use Rattle.protocol.specs.Tree.{property_in, cell_in, readable, reading};
 ghost use Rattle.tree.specs.Seen.{seen};
 ghost use Rattle.cells.specs.Cells.{cells_in, with_word, with_mark};
-ghost use Rattle.cells.specs.Lent.{reading_of};
+ghost use Rattle.protocol.specs.Refusal.{option_of};
 
-use super::{CELL_SIZE, Reading};
+use super::CELL_SIZE;
 use tree::record;
 
 // The word of the cell at a place; 0 where there is none. Whether it is a reading is `reading`'s to say.
@@ -44,13 +44,13 @@ fn is_readable(tree: &[u8], cells: &[u8], place: usize) -> bool
 }
 
 // The number that the property at a place has to read, or none: the one way to a stored word.
-pub fn reading(tree: &[u8], cells: &[u8], place: usize) -> Reading
-    ensures { result ≡ reading_of (reading (property_in (seen tree.now) place) (cell_in (cells_in cells.now) place)) }
+pub fn reading(tree: &[u8], cells: &[u8], place: usize) -> Option<u32>
+    ensures { result ≡ option_of (reading (property_in (seen tree.now) place) (cell_in (cells_in cells.now) place)) }
 {
-    if !is_readable(tree, cells, place) {
-        return Reading::Nothing;
+    if is_readable(tree, cells, place) {
+        return Some(read_word(cells, place));
     }
-    Reading::Word(read_word(cells, place))
+    None
 }
 
 // A word stored in the cell at a place; nothing where there is none.

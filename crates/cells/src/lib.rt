@@ -9,10 +9,3 @@ pub mod update;
 
 // The size of a cell in the lent form (docs/FORMATS.md).
 pub const CELL_SIZE: usize = 5;
-
-// The number that a property has to read, or that there is none.
-#[derive(Drop)]
-pub enum Reading {
-    Word(u32),
-    Nothing,
-}

@@ -5,11 +5,11 @@ use Rattle.cells.specs.Cells.{cells_in}
 use Rattle.cells.proofs.ReadingLaws.{reads_none, reads_word}
 use Rattle.cells.proofs.cell.reading.Goals as goal
 
-pub returns-then-not-is_readable : goal.returns-then-not-is_readable
-returns-then-not-is_readable c =
-    reads_none (property_in (seen c.args.tree.now) c.args.place) (cell_in (cells_in c.args.cells.now) c.args.place) c.is_readable.ensures c.if-not-is_readable.true
+pub returns-then-is_readable : goal.returns-then-is_readable
+returns-then-is_readable c =
+    reads_word (property_in (seen c.args.tree.now) c.args.place) (cell_in (cells_in c.args.cells.now) c.args.place) c.is_readable.ensures
+    c.if-is_readable.true c.read_word.ensures
 
 pub returns : goal.returns
 returns c =
-    reads_word (property_in (seen c.args.tree.now) c.args.place) (cell_in (cells_in c.args.cells.now) c.args.place) c.is_readable.ensures
-    c.if-not-is_readable.false c.read_word.ensures
+    reads_none (property_in (seen c.args.tree.now) c.args.place) (cell_in (cells_in c.args.cells.now) c.args.place) c.is_readable.ensures c.if-is_readable.false

@@ -1,24 +1,27 @@
 -- `cells::update::post` meets its contract. Assumes nothing.
-use mathlib.Core.Path.{◌≡◌, sym, ap, ◌∙◌}
+use mathlib.Core.Path.{◌≡◌, refl, sym, ap, ◌∙◌}
 use mathlib.Core.Bool.{true}
+use Rattle.std.proofs.lemmas.Result.{err_from_is_err_and}
 use Rattle.protocol.specs.Numbers.{bit_live}
 use Rattle.protocol.specs.Bytes.{bit}
+use Rattle.protocol.specs.Refusal.{number_told}
 use Rattle.protocol.specs.Tree.{is_live, property_in}
 use Rattle.tree.specs.Seen.{seen}
 use Rattle.cells.specs.Lent.{is_lent}
-use Rattle.cells.proofs.CellLaws.{posts_unsound, posts_other, posts_live, lent_done, worded, word_first, no_word}
+use Rattle.cells.proofs.CellLaws.{posts_refused, posts_other, posts_live, lent_done, worded, word_first, no_word}
 use Rattle.cells.proofs.update.post.Goals as goal
 use Rattle.cells.proofs.update.post.Goals.{then-ready, else-ready}
 
-pub returns-then-check-ne-DONE : goal.returns-then-check-ne-DONE
-returns-then-check-ne-DONE c =
-    posts_unsound c.args.tree.now c.args.cells.now c.args.place c.args.n c.args.ready
-    c.check.ensures c.if-check-ne-DONE.true
+pub returns-in_err-check : goal.returns-in_err-check
+returns-in_err-check c =
+    let p = err_from_is_err_and c.from_residual.result c.from_residual.ensures.1 in
+    rw (p.1, p.2)
+    (posts_refused c.args.tree.now c.args.cells.now c.args.place c.args.n c.args.ready c.in_err-check.field-0.0 c.in_err-check.ensures)
 
 pub returns-then-not-is_live : goal.returns-then-not-is_live
 returns-then-not-is_live c =
     let lent : is_lent c.args.tree.now c.args.cells.now ≡ true =
-    lent_done c.args.tree.now c.args.cells.now c.check.ensures c.if-check-ne-DONE.false in
+    lent_done c.args.tree.now c.args.cells.now (sym (ap number_told c.in_ok-check.was) ∙ c.check.ensures) refl in
     let live : is_live (property_in (seen c.args.tree.now) c.args.place) ≡ c.is_live.result =
     sym (c.is_live.ensures ∙ ap (bit bit_live) c.read_fields.ensures.attribute) in
     posts_other c.args.tree.now c.args.cells.now c.args.place c.args.n c.args.ready
@@ -27,7 +30,7 @@ returns-then-not-is_live c =
 pub returns : goal.returns
 returns c =
     let lent : is_lent c.args.tree.now c.args.cells.now ≡ true =
-    lent_done c.args.tree.now c.args.cells.now c.check.ensures c.if-check-ne-DONE.false in
+    lent_done c.args.tree.now c.args.cells.now (sym (ap number_told c.in_ok-check.was) ∙ c.check.ensures) refl in
     let live : is_live (property_in (seen c.args.tree.now) c.args.place) ≡ c.is_live.result =
     sym (c.is_live.ensures ∙ ap (bit bit_live) c.read_fields.ensures.attribute) in
     let joined : c.if-ready.cells ≡ worded c.args.cells.now c.args.place c.args.n c.args.ready =

@@ -1,24 +1,28 @@
 -- `cells::update::restore` meets its contract. Assumes nothing.
 use Prim.Native.Nat.{◌<◌, ◌≤◌}
-use mathlib.Core.Path.{◌≡◌, sym, ap, subst, ◌∙◌}
+use mathlib.Core.Path.{◌≡◌, refl, sym, ap, subst, ◌∙◌}
 use mathlib.Core.Bool.{true}
+use Rattle.std.proofs.lemmas.Result.{err_from_is_err_and}
 use Rattle.protocol.specs.Numbers.{bit_live}
 use Rattle.protocol.specs.Bytes.{bit}
+use Rattle.protocol.specs.Refusal.{number_told}
 use Rattle.protocol.specs.Tree.{is_live, property_in}
 use Rattle.tree.specs.Seen.{seen}
 use Rattle.cells.specs.Lent.{is_lent}
 use Rattle.cells.proofs.CellLaws.{lent_done}
-use Rattle.cells.proofs.RestoreLaws.{restore_begins, restore_live, restore_other, restore_ends, restore_unsound}
+use Rattle.cells.proofs.RestoreLaws.{restore_begins, restore_live, restore_other, restore_ends, restore_refused}
 use Rattle.cells.proofs.update.restore.Goals as goal
 use Rattle.cells.proofs.update.restore.Goals.{then-is_live, else-is_live}
 
-pub returns-then-check-ne-DONE : goal.returns-then-check-ne-DONE
-returns-then-check-ne-DONE c = restore_unsound c.args.tree.now c.args.cells.now c.check.ensures c.if-check-ne-DONE.true
+pub returns-in_err-check : goal.returns-in_err-check
+returns-in_err-check c =
+    let p = err_from_is_err_and c.from_residual.result c.from_residual.ensures.1 in
+    rw (p.1, p.2) (restore_refused c.args.tree.now c.args.cells.now c.in_err-check.field-0.0 c.in_err-check.ensures)
 
 pub loop-k-init : goal.loop-k-init
 loop-k-init c =
     let lent : is_lent c.args.tree.now c.args.cells.now ≡ true =
-    lent_done c.args.tree.now c.args.cells.now c.check.ensures c.if-check-ne-DONE.false in
+    lent_done c.args.tree.now c.args.cells.now (sym (ap number_told c.in_ok-check.was) ∙ c.check.ensures) refl in
     restore_begins c.args.tree.now c.args.cells.now lent
 
 pub loop-k-preserved : goal.loop-k-preserved
@@ -27,7 +31,7 @@ loop-k-preserved c =
     sym (c.is_live.ensures ∙ ap (bit bit_live) c.read_fields.ensures.attribute) in
     let tree = c.args.tree.now in
     let old = c.args.cells.now in
-    let within = subst (λ n. c.loop-k.k < n) c.property_count-count.ensures c.loop-k-test.true in
+    let within = subst (λ n. c.loop-k.k < n) c.property_count-k-end.ensures c.loop-k-test.true in
     elim c.if-is_live.branch [
       | then-is_live w ↦ restore_live tree old c.loop-k.invariant within (live ∙ w.if-is_live.true) (w.cells-is ∙ w.store_mark.ensures)
       | else-is_live w ↦ restore_other tree old c.loop-k.invariant within (live ∙ w.if-is_live.false) w.cells-is
@@ -36,6 +40,6 @@ loop-k-preserved c =
 pub returns : goal.returns
 returns c =
     let lent : is_lent c.args.tree.now c.args.cells.now ≡ true =
-    lent_done c.args.tree.now c.args.cells.now c.check.ensures c.if-check-ne-DONE.false in
+    lent_done c.args.tree.now c.args.cells.now (sym (ap number_told c.in_ok-check.was) ∙ c.check.ensures) refl in
     restore_ends c.args.tree.now c.args.cells.now lent c.loop-k.invariant
-    (subst (λ n. n ≤ c.loop-k.k) c.property_count-count.ensures c.loop-k-test.false)
+    (subst (λ n. n ≤ c.loop-k.k) c.property_count-k-end.ensures c.loop-k-test.false)
