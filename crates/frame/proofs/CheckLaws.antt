@@ -1,22 +1,24 @@
 -- A serial string checked, and its data copied out of it.
 -- Assumes nothing.
-use Rattle.std.proofs.Common.{◌≡◌, ℕ, zero, suc, ◌+◌, ◌-◌, ◌<◌, ◌≤◌, Bool, true, false, cond, ◌&&◌, eqb, ltb, List, [], ◌∷◌, ◌++◌, length, get_or, take, drop, sym, refl, ap, ◌∙◌, subst, ap₂, append_assoc, append-nil, le_of_suc-le-suc, not-suc-le-zero, arith, length-append, drop_of_length-le, length-take, take_all, drop-cons, drop-drop, ltb-false, ltb-true, le-ltb, lt-ltb, eq-eqb, ne_eqb, eqb-true}
+use Rattle.std.proofs.Common.{Some, None, Result, Ok, Err, min, ◌≡◌, ℕ, zero, suc, ◌+◌, ◌-◌, ◌<◌, ◌≤◌, Bool, true, false, cond, ◌&&◌, eqb, ltb, List, [], ◌∷◌, ◌++◌, length, get_or, take, drop, sym, refl, ap, ◌∙◌, subst, ap₂, append_assoc, append-nil, le_of_suc-le-suc, not-suc-le-zero, arith, length-append, drop_of_length-le, length-take, take_all, drop-cons, drop-drop, ltb-false, ltb-true, le-ltb, lt-ltb, eq-eqb, ne_eqb, eqb-true}
+use native.Mathlib.Decide.{dec_le}
 use native.Mathlib.Nat.{sub-zero}
-use mathlib.Core.Option.{Option, none, some}
+use mathlib.Core.Option as math
 use borrow.Author.Tests.{eqb-false}
 use lib.Seq.{take-nil, drop-append_seam}
-use Rattle.protocol.specs.Numbers.{done, no_preamble, bad_pair, too_short, too_long, bad_checksum, other_address, DLE, STX, ETX, max_data, max_content, byte_end}
+use Rattle.protocol.specs.Numbers.{done, bad_checksum, other_address, DLE, STX, ETX, max_data, max_content, byte_end}
 use Rattle.protocol.specs.Bytes.{Bytes, sum}
 use Rattle.protocol.specs.Frame.{refused, received, doubled, double, checksum, content_of, wrap, frame, undouble, judge, judge_whole, read_frame, cut, address_in, data_in, checksum_in}
 use Rattle.protocol.specs.Buffer.{over, Put, Emits}
 use Rattle.protocol.proofs.TestLaws.{eqb_same}
 use Rattle.protocol.proofs.ListLaws.{init_last, sum_snoc, bytes_left, bytes_drop}
 use Rattle.protocol.proofs.FrameLaws.{double_snoc, bytes_undouble, double-undouble, parts, is_summed, judge_by, judge_whole_by, is_opened, read_frame_by, read_frame_only, read_frame-refused}
-use Rattle.protocol.proofs.BufferLaws.{put_nil, puts, length_put, over_put, over_nil}
+use Rattle.protocol.proofs.BufferLaws.{put_emits, put_nil, puts, length_put, over_nil}
+use Rattle.protocol.specs.declared.Refusal.{Refusal}
+use Rattle.protocol.specs.declared.Refusal.TheVariants.{NoPreamble, BadPair, TooShort, TooLong, BadChecksum, OtherAddress}
+use Rattle.protocol.specs.Refusal.{refusal_number}
 use Rattle.frame.specs.declared.read.Tally.{Tally}
-use Rattle.frame.specs.declared.read.Scan.TheVariants.{Whole, Broken}
-use Rattle.frame.specs.declared.read.Checked.{Checked}
-use Rattle.frame.specs.Steps.{byte_sum, Tallies, ScanOf, failed, passed, judged, content_from, Checks}
+use Rattle.frame.specs.Steps.{byte_sum, Tallies, ScanOf, judged, content_from, Checks}
 
 -- One content byte more, of a list that begins with it.
 content_step : (n b : ℕ) (l : List ℕ) → l ≡ b ∷ drop 1 l → content_from (suc n) l ≡ b ∷ content_from n (drop (length (doubled b)) l)
@@ -46,15 +48,17 @@ content_most : (n : ℕ) (s : List ℕ) → length (content_from n s) ≤ n
 content_most n s =
     omega (arith, ap length (content_take n n s (omega arith)), length-take n (content_from n s))
 
--- Content bytes copied into less room than they need, and into enough.
-pub copy_part : (n room : ℕ) (l : List ℕ) {old out : List ℕ} {r : ℕ} → room < n → Put 0 (content_from room l) old r out
-    → Put 0 (take room (content_from n l)) old r out
-copy_part n room l {old} {out} {r} h p = subst (λ m. Put 0 m old r out) (content_take room n l (omega (arith, h))) p
-
-pub copy_whole : (n room : ℕ) (l : List ℕ) {old out : List ℕ} {r : ℕ} → n ≤ room → Put 0 (content_from n l) old r out
-    → Put 0 (take room (content_from n l)) old r out
-copy_whole n room l {old} {out} {r} h p =
-    subst (λ m. Put 0 m old r out) (sym (take_all room (content_from n l) (omega (arith, h, content_most n l)))) p
+-- Content bytes copied into the room that there is.
+pub content_min : (n room : ℕ) (s : List ℕ) → content_from (min n room) s ≡ take room (content_from n s)
+content_min n room s = go (dec_le n room)
+  where
+    go : Dec (n ≤ room) → content_from (min n room) s ≡ take room (content_from n s)
+    go (yes h) =
+        let all : min n room ≡ n = omega (arith, h) in
+        ap (λ k. content_from k s) all ∙ sym (take_all room (content_from n s) (omega (arith, h, content_most n s)))
+    go (no h) =
+        let some : min n room ≡ room = omega (arith, h) in
+        ap (λ k. content_from k s) some ∙ content_take room n s (omega (arith, h))
 
 -- Doubled bytes give their content back.
 doubled_head : (b : ℕ) (x : List ℕ) → doubled b ++ x ≡ b ∷ drop 1 (doubled b ++ x)
@@ -108,7 +112,7 @@ module _ (s : List ℕ) (from n : ℕ) (old : List ℕ) (room : n ≤ length old
         within = omega arith;
       }
 
-  copy_more : {out out' : List ℕ} {i k k' w : ℕ} → Copying s from n old out i k → k < n → i < length s
+  pub copy_more : {out out' : List ℕ} {i k k' w : ℕ} → Copying s from n old out i k → k < n → i < length s
       → Put k (get_or s i 0 ∷ []) out k' out' → w ≡ length (doubled (get_or s i 0)) → Copying s from n old out' (i + w) k'
   copy_more {i = i} {k = k} {k' = k'} {w = w} c h l p e =
       let b : ℕ = get_or s i 0 in
@@ -127,19 +131,6 @@ module _ (s : List ℕ) (from n : ℕ) (old : List ℕ) (room : n ≤ length old
         put = puts (omega arith) c.put p;
         within = omega (arith, p.next);
       }
-
-  -- A byte other than 10h; and a 10h, behind which a byte is passed over.
-  pub copy_lone : {out out' : List ℕ} {i k k' : ℕ} → Copying s from n old out i k → k < n → i < length s
-      → Put k (get_or s i 0 ∷ []) out k' out' → (get_or s i 0 ≡ DLE → ⊥) → Copying s from n old out' (i + 1) k'
-  copy_lone {i = i} c h l p u =
-      copy_more c h l p (sym (ap (λ t. length (cond t (DLE ∷ DLE ∷ []) (get_or s i 0 ∷ []))) (ne_eqb (get_or s i 0) DLE u)))
-
-  pub copy_doubled : {out out' : List ℕ} {i k k' : ℕ} → Copying s from n old out i k → k < n → i < length s
-      → Put k (get_or s i 0 ∷ []) out k' out' → get_or s i 0 ≡ DLE → Copying s from n old out' (i + 1 + 1) k'
-  copy_doubled {out' = out'} {i = i} {k' = k'} c h l p e =
-      let two : i + 2 ≡ i + 1 + 1 = omega arith in
-      subst (λ m. Copying s from n old out' m k') two
-      (copy_more c h l p (sym (ap (λ t. length (cond t (DLE ∷ DLE ∷ []) (get_or s i 0 ∷ []))) (eq-eqb (get_or s i 0) DLE e))))
 
   pub copy_same : {out : List ℕ} {i k : ℕ} → Copying s from n old out i k → length out ≡ length old
   copy_same {k = k} c =
@@ -164,39 +155,23 @@ module _ (s : List ℕ) (from n : ℕ) (old : List ℕ) (room : n ≤ length old
       ∙ append-nil c.bytes in
       subst (λ l. Put 0 l old k out) (sym is) c.put
 
--- Where the data starts: nowhere on a refusal, behind the address with 0.
-no_start : (a n : ℕ) → ltb 0 n ≡ true → cond (eqb n done) (2 + length (doubled a)) 0 ≡ 0
-no_start a n l = rw (ne_eqb n done (λ q. omega (arith, ltb-true 0 n l, q)))
-
-data-start : (a n : ℕ) → n ≡ done → 2 + length (doubled a) ≡ cond (eqb n done) (2 + length (doubled a)) 0
-data-start a n e = rw (eq-eqb n done e)
-
--- Numbers that need no content.
-checks_refused : (a : ℕ) (s : List ℕ) (n : ℕ) → ltb 0 n ≡ true → read_frame a s ≡ refused n → Checks a s (failed n)
-checks_refused a s n l e =
-    record {
-      number = sym (ap (λ r. r.number) e);
-      len = sym (ap (λ r. length r.payload) e);
-      start = sym (ap (λ r. cond (eqb r.number done) (2 + length (doubled a)) 0) e ∙ no_start a n l);
-      content = content_zero (drop 0 s) ∙ sym (ap (λ r. r.payload) e);
-    }
+-- A string that does not begin with 10 02.
+checks_unopened : (a : ℕ) (s : List ℕ) → is_opened s ≡ false → Checks a s (Err NoPreamble)
+checks_unopened a s h = read_frame_by a s false h
 
 and-false : (t : Bool) → (t && false) ≡ false
 and-false true = refl
 and-false false = refl
 
-checks_unopened : (a : ℕ) (s : List ℕ) → is_opened s ≡ false → Checks a s (failed no_preamble)
-checks_unopened a s h = checks_refused a s no_preamble refl (read_frame_by a s false h)
-
-pub checks_one : (a : ℕ) (s : List ℕ) → length s < 2 → Checks a s (failed no_preamble)
+pub checks_one : (a : ℕ) (s : List ℕ) → length s < 2 → Checks a s (Err NoPreamble)
 checks_one a [] h = checks_unopened a [] refl
 checks_one a (x ∷ []) h = checks_unopened a (x ∷ []) (and-false (eqb x DLE))
 checks_one a (x ∷ y ∷ s) h = absurd (omega (arith, h))
 
-pub checks_first : (a : ℕ) (s : List ℕ) → (get_or s 0 0 ≡ DLE → ⊥) → Checks a s (failed no_preamble)
+pub checks_first : (a : ℕ) (s : List ℕ) → (get_or s 0 0 ≡ DLE → ⊥) → Checks a s (Err NoPreamble)
 checks_first a s h = checks_unopened a s (ap (λ t. t && eqb (get_or s 1 0) STX) (ne_eqb (get_or s 0 0) DLE h))
 
-pub checks_second : (a : ℕ) (s : List ℕ) → (get_or s 1 0 ≡ STX → ⊥) → Checks a s (failed no_preamble)
+pub checks_second : (a : ℕ) (s : List ℕ) → (get_or s 1 0 ≡ STX → ⊥) → Checks a s (Err NoPreamble)
 checks_second a s h =
     checks_unopened a s
     (ap (λ t. eqb (get_or s 0 0) DLE && t) (ne_eqb (get_or s 1 0) STX h) ∙ and-false (eqb (get_or s 0 0) DLE))
@@ -204,13 +179,13 @@ checks_second a s h =
 pub both_open : (s : List ℕ) → get_or s 0 0 ≡ DLE → get_or s 1 0 ≡ STX → is_opened s ≡ true
 both_open s p q = ap₂ ◌&&◌ (eq-eqb (get_or s 0 0) DLE p) (eq-eqb (get_or s 1 0) STX q)
 
-pub checks_broken : (a : ℕ) (s : List ℕ) → is_opened s ≡ true → ScanOf (undouble false (drop 2 s)) Broken → Checks a s (failed bad_pair)
+pub checks_broken : (a : ℕ) (s : List ℕ) → is_opened s ≡ true → ScanOf (undouble false (drop 2 s)) None → Checks a s (Err BadPair)
 unfolding judge_whole
 checks_broken a s h = go (undouble false (drop 2 s)) refl
   where
-    go : (o : Option (List ℕ)) → undouble false (drop 2 s) ≡ o → ScanOf o Broken → Checks a s (failed bad_pair)
-    go none e w = checks_refused a s bad_pair refl (read_frame_by a s true h ∙ ap (judge_whole a) e)
-    go (some c) e w = absurd w
+    go : (o : math.Option (List ℕ)) → undouble false (drop 2 s) ≡ o → ScanOf o None → Checks a s (Err BadPair)
+    go math.none e w = read_frame_by a s true h ∙ ap (judge_whole a) e
+    go (math.some c) e w = absurd w
 
 -- The checksum is right exactly where all bytes of the content sum up to 255.
 summed_same : (c : List ℕ) → 1 ≤ length c → checksum_in c < byte_end → is_summed c ≡ eqb (byte_sum c) 255
@@ -225,61 +200,53 @@ summed_same c h k =
 judged_by : (a : ℕ) (t : Tally) (p q u v : Bool) → ltb t.count 3 ≡ p → ltb max_content t.count ≡ q → eqb t.sum 255 ≡ u
     → eqb t.first a ≡ v
     → judged a t
-    ≡ cond p (failed too_short) (cond q (failed too_long) (cond u (cond v (passed a t.count) (failed other_address)) (failed bad_checksum)))
+    ≡ cond p (Err TooShort) (cond q (Err TooLong) (cond u (cond v (Ok (t.count - 2)) (Err OtherAddress)) (Err BadChecksum)))
 unfolding judged
 judged_by a t p q u v e f g h = rw (e, f, g, h)
 
 -- The same, test by test.
 module _ (a : ℕ) (t : Tally) where
-  pub judged_short : t.count < 3 → failed too_short ≡ judged a t
+  pub judged_short : t.count < 3 → Err TooShort ≡ judged a t
   judged_short p =
       sym
       (judged_by a t true (ltb max_content t.count) (eqb t.sum 255) (eqb t.first a) (lt-ltb t.count 3 p) refl refl refl)
 
-  pub judged_long : 3 ≤ t.count → max_content < t.count → failed too_long ≡ judged a t
+  pub judged_long : 3 ≤ t.count → max_content < t.count → Err TooLong ≡ judged a t
   judged_long p q =
       sym
       (judged_by a t false true (eqb t.sum 255) (eqb t.first a) (le-ltb t.count 3 p) (lt-ltb max_content t.count q) refl refl)
 
   module _ (p : 3 ≤ t.count) (q : t.count ≤ max_content) where
     in_bounds : (u v : Bool) → eqb t.sum 255 ≡ u → eqb t.first a ≡ v
-        → judged a t ≡ cond u (cond v (passed a t.count) (failed other_address)) (failed bad_checksum)
+        → judged a t ≡ cond u (cond v (Ok (t.count - 2)) (Err OtherAddress)) (Err BadChecksum)
     in_bounds u v e f = judged_by a t false false u v (le-ltb t.count 3 p) (le-ltb max_content t.count q) e f
 
-    pub judged_bad_sum : (t.sum ≡ 255 → ⊥) → failed bad_checksum ≡ judged a t
+    pub judged_bad_sum : (t.sum ≡ 255 → ⊥) → Err BadChecksum ≡ judged a t
     judged_bad_sum h = sym (in_bounds false (eqb t.first a) (ne_eqb t.sum 255 h) refl)
 
-    pub judged_other : t.sum ≡ 255 → (t.first ≡ a → ⊥) → failed other_address ≡ judged a t
+    pub judged_other : t.sum ≡ 255 → (t.first ≡ a → ⊥) → Err OtherAddress ≡ judged a t
     judged_other e h = sym (in_bounds true false (eq-eqb t.sum 255 e) (ne_eqb t.first a h))
 
-    pub judged-passed : {w : ℕ} → t.sum ≡ 255 → t.first ≡ a → w ≡ length (doubled a)
-        → record { number = done; len = t.count - 2; start = 2 + w } ≡ judged a t
-    judged-passed e f g =
-        ap (λ w. record { number = done; len = t.count - 2; start = 2 + w }) g
-        ∙ sym (in_bounds true true (eq-eqb t.sum 255 e) (eq-eqb t.first a f))
+    pub judged_passed : t.sum ≡ 255 → t.first ≡ a → Ok (t.count - 2) ≡ judged a t
+    judged_passed e f = sym (in_bounds true true (eq-eqb t.sum 255 e) (eq-eqb t.first a f))
 
--- A string whose content passes every test: its data stands where `passed` says.
-checks_passed : (a : ℕ) (s c : List ℕ) → read_frame a s ≡ received (data_in c) → 3 ≤ length c → Checks a s (passed a (length c))
+-- A string whose content passes every test: its data stands behind the address.
+checks_passed : (a : ℕ) (s c : List ℕ) → read_frame a s ≡ received (data_in c) → 3 ≤ length c → Checks a s (Ok (length c - 2))
 checks_passed a s c e h =
-    let payload : (read_frame a s).payload ≡ data_in c = ap (λ r. r.payload) e in
     let size : length (data_in c) ≡ length c - 2 =
     omega (arith, ap length (parts c (omega arith)), length-append (data_in c) (checksum_in c ∷ [])) in
     let written : s ≡ frame a (data_in c) =
-    (read_frame_only a s (ap (λ r. r.number) e)).written ∙ ap (frame a) payload in
-    record {
-      number = sym (ap (λ r. r.number) e);
-      len = sym (ap length payload ∙ size);
-      start = data-start a (read_frame a s).number (ap (λ r. r.number) e);
-      content =
-          ap₂ (λ n l. content_from n (drop (2 + length (doubled a)) l)) (sym size) written
-          ∙ frame_content a (data_in c)
-          ∙ sym payload;
-    }
+    (read_frame_only a s (ap (λ r. r.number) e)).written ∙ ap (λ r. frame a r.payload) e in
+    e
+    ∙ ap received
+    (sym
+    (ap₂ (λ n l. content_from n (drop (2 + length (doubled a)) l)) (sym size) written ∙ frame_content a (data_in c)))
 
 -- A content and its tally are judged alike: both refused with a number, or both passed.
 pub data Alike (a : ℕ) (c : List ℕ) (t : Tally) : Type 0 where
-  both_refused : (n : ℕ) → ltb 0 n ≡ true → judge_whole a (some c) ≡ refused n → judged a t ≡ failed n → Alike a c t
-  both_passed : 3 ≤ length c → length c ≤ max_content → judge_whole a (some c) ≡ received (data_in c) → judged a t ≡ passed a (length c)
+  both_refused : (e : Refusal) → judge_whole a (math.some c) ≡ refused (refusal_number e) → judged a t ≡ Err e → Alike a c t
+  both_passed : 3 ≤ length c → length c ≤ max_content → judge_whole a (math.some c) ≡ received (data_in c)
+      → judged a t ≡ Ok (length c - 2)
       → Alike a c t
 
 module _ (a : ℕ) (c : List ℕ) (t : Tally) (w : Tallies c t) (all : Bytes c) where
@@ -290,11 +257,11 @@ module _ (a : ℕ) (c : List ℕ) (t : Tally) (w : Tallies c t) (all : Bytes c) 
     long_enough : ltb t.count 3 ≡ false → 3 ≤ length c
     long_enough e = omega (arith, ltb-false t.count 3 e, w.count)
 
-    whole_is : judge_whole a (some c) ≡ judge a c
+    whole_is : judge_whole a (math.some c) ≡ judge a c
     whole_is = judge_whole_by a c false (le-ltb max_content (length c) most)
 
     content_by : ltb t.count 3 ≡ false → (u v : Bool) → eqb t.sum 255 ≡ u → eqb t.first a ≡ v
-        → judge_whole a (some c) ≡ cond u (cond v (received (data_in c)) (refused other_address)) (refused bad_checksum)
+        → judge_whole a (math.some c) ≡ cond u (cond v (received (data_in c)) (refused other_address)) (refused bad_checksum)
     content_by e u v g h =
         whole_is
         ∙ judge_by a c false u v
@@ -307,20 +274,20 @@ module _ (a : ℕ) (c : List ℕ) (t : Tally) (w : Tallies c t) (all : Bytes c) 
       where
         go : (p : Bool) → ltb t.count 3 ≡ p → (u : Bool) → eqb t.sum 255 ≡ u → (v : Bool) → eqb t.first a ≡ v → Alike a c t
         go true e u g v h =
-            both_refused too_short refl
+            both_refused TooShort
             (whole_is ∙ judge_by a c true (is_summed c) (eqb (address_in c) a) (ap (λ n. ltb n 3) (sym w.count) ∙ e) refl refl)
             (judged_by a t true false u v e long? g h)
         go false e false g v h =
-            both_refused bad_checksum refl (content_by e false v g h) (judged_by a t false false false v e long? g h)
+            both_refused BadChecksum (content_by e false v g h) (judged_by a t false false false v e long? g h)
         go false e true g false h =
-            both_refused other_address refl (content_by e true false g h) (judged_by a t false false true false e long? g h)
+            both_refused OtherAddress (content_by e true false g h) (judged_by a t false false true false e long? g h)
         go false e true g true h =
             both_passed (long_enough e) most (content_by e true true g h)
-            (judged_by a t false false true true e long? g h ∙ ap (passed a) w.count)
+            (judged_by a t false false true true e long? g h ∙ ap (λ n. Ok (n - 2)) w.count)
 
   long_alike : max_content < length c → Alike a c t
   long_alike h =
-      both_refused too_long refl
+      both_refused TooLong
       (judge_whole_by a c true (lt-ltb max_content (length c) h))
       (judged_by a t false true (eqb t.sum 255) (eqb t.first a)
       (le-ltb t.count 3 (omega (arith, h, w.count)))
@@ -335,9 +302,9 @@ module _ (a : ℕ) (c : List ℕ) (t : Tally) (w : Tallies c t) (all : Bytes c) 
       go true e = long_alike (ltb-true max_content (length c) e)
       go false e = short_alike (ltb-false max_content (length c) e)
 
-module _ (a : ℕ) (s c : List ℕ) (t : Tally) (open? : is_opened s ≡ true) (is : undouble false (drop 2 s) ≡ some c)
+module _ (a : ℕ) (s c : List ℕ) (t : Tally) (open? : is_opened s ≡ true) (is : undouble false (drop 2 s) ≡ math.some c)
     (w : Tallies c t) (all : Bytes s) where
-  reads : read_frame a s ≡ judge_whole a (some c)
+  reads : read_frame a s ≡ judge_whole a (math.some c)
   reads = read_frame_by a s true open? ∙ ap (judge_whole a) is
 
   content_bytes : Bytes c
@@ -350,41 +317,34 @@ module _ (a : ℕ) (s c : List ℕ) (t : Tally) (open? : is_opened s ≡ true) (
   checks_tally = go (alike a c t w content_bytes)
     where
       go : Alike a c t → Checks a s (judged a t)
-      go (both_refused n l e f) = rw f (checks_refused a s n l (reads ∙ e))
+      go (both_refused n e f) = rw f (reads ∙ e)
       go (both_passed l m e f) = rw f (checks_passed a s c (reads ∙ e) l)
 
 -- What a pass over an opened string finds decides what is known of it.
-pub checks_whole : (a : ℕ) (s : List ℕ) (t : Tally) → is_opened s ≡ true → Bytes s → ScanOf (undouble false (drop 2 s)) (Whole t)
-    → {r : Checked} → r ≡ judged a t → Checks a s r
+pub checks_whole : (a : ℕ) (s : List ℕ) (t : Tally) → is_opened s ≡ true → Bytes s → ScanOf (undouble false (drop 2 s)) (Some t)
+    → {r : Result ℕ Refusal} → r ≡ judged a t → Checks a s r
 checks_whole a s t h all w {r} e = subst (Checks a s) (sym e) (go (undouble false (drop 2 s)) refl w)
   where
-    go : (o : Option (List ℕ)) → undouble false (drop 2 s) ≡ o → ScanOf o (Whole t) → Checks a s (judged a t)
-    go none is w = absurd w
-    go (some c) is w = checks_tally a s c t h is w all
+    go : (o : math.Option (List ℕ)) → undouble false (drop 2 s) ≡ o → ScanOf o (Some t) → Checks a s (judged a t)
+    go math.none is w = absurd w
+    go (math.some c) is w = checks_tally a s c t h is w all
 
 -- What `read_front` emits: nothing on a refusal, and else the data that was copied.
-pub front_refused : (a : ℕ) (s old : List ℕ) {r : Checked} → Checks a s r → (r.number ≡ done → ⊥)
-    → Emits (cut (length old) (read_frame a s)) old r.number 0 old
-front_refused a s old c h =
-    let nothing : take (length old) (read_frame a s).payload ≡ [] =
-    ap (take (length old)) (read_frame-refused a s (λ e. h (c.number ∙ e))) ∙ take-nil (length old) in
-    record {
-      number = c.number;
+pub front_refused : (a : ℕ) (s old : List ℕ) (e : Refusal) → Checks a s (Err e)
+    → Emits (cut (length old) (read_frame a s)) old (refusal_number e) 0 old
+front_refused a s old e h =
+    let nothing : take (length old) [] ≡ [] = take-nil (length old) in
+    rw h (record {
+      number = refl;
       len = sym (ap length nothing);
       bytes = sym (ap (λ l. over l old) nothing ∙ over_nil old);
-    }
+    })
 
-pub front_data : (a : ℕ) (s : List ℕ) {r : Checked} {old new : List ℕ} {size : ℕ} → Checks a s r → r.number ≡ done
-    → Put 0 (take (length old) (content_from r.len (drop r.start s))) old size new
+pub front_data : (a : ℕ) (s : List ℕ) (n : ℕ) {w : ℕ} {old new : List ℕ} {size : ℕ} → Checks a s (Ok n) → w ≡ length (doubled a)
+    → Put 0 (take (length old) (content_from n (drop (2 + w) s))) old size new
     → Emits (cut (length old) (read_frame a s)) old done size new
-front_data a s {r} {old} {new} {size} c h p =
-    let q : Put 0 (take (length old) (read_frame a s).payload) old size new =
-    subst (λ l. Put 0 (take (length old) l) old size new) c.content p in
-    record {
-      number = sym h ∙ c.number;
-      len = omega (arith, q.next);
-      bytes = q.bytes ∙ over_put (take (length old) (read_frame a s).payload) old;
-    }
+front_data a s n {w} {old} {new} {size} h e p =
+    rw h (put_emits (subst (λ w. Put 0 (take (length old) (content_from n (drop (2 + w) s))) old size new) e p))
 
 -- Where there is room for all data, nothing is cut off.
 data-short : (a : ℕ) (s : List ℕ) → length (read_frame a s).payload ≤ max_data

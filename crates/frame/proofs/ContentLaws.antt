@@ -1,14 +1,15 @@
 -- A content that lies in one piece: tallied, judged, and its data put out.
 -- Assumes nothing.
-use Rattle.std.proofs.Common.{◌≡◌, ℕ, ◌+◌, ◌-◌, ◌<◌, ◌≤◌, List, length, get_or, take, drop, sym, refl, ap, ◌∙◌, subst, add-one, arith, take_all, take-suc, ltb-true}
+use Rattle.std.proofs.Common.{Ok, Err, ◌≡◌, ℕ, ◌+◌, ◌-◌, ◌<◌, ◌≤◌, List, length, get_or, take, drop, sym, refl, ap, ◌∙◌, subst, add-one, arith, take_all, take-suc}
 use mathlib.Core.Option.{some}
 use Rattle.protocol.specs.Numbers.{done, max_content}
 use Rattle.protocol.specs.Bytes.{Bytes, sum}
-use Rattle.protocol.specs.Frame.{judge_whole, data_in, received, refused}
+use Rattle.protocol.specs.Frame.{judge_whole, data_in, received}
 use Rattle.protocol.specs.Buffer.{Put, Emits}
 use Rattle.protocol.proofs.BufferLaws.{put_emits, emits_refused}
 use Rattle.frame.specs.declared.read.Tally.{Tally}
-use Rattle.frame.specs.declared.read.Checked.{Checked}
+use Rattle.protocol.specs.declared.Refusal.{Refusal}
+use Rattle.protocol.specs.Refusal.{refusal_number}
 use Rattle.frame.specs.Steps.{Tallies, OneMore, judged}
 use Rattle.frame.proofs.ReadLaws.{tallies_more}
 use Rattle.frame.proofs.CheckLaws.{Alike, both_refused, both_passed, alike}
@@ -36,31 +37,34 @@ pub tally_ends : (c : List ℕ) {t : Tally} {i : ℕ} → Tallying c t i → len
 tally_ends c {t} {i} w h = subst (λ l. Tallies l t) (take_all i c h) w.tally
 
 -- What `read_content` emits.
-module _ (a : ℕ) (c : List ℕ) {t : Tally} {r : Checked} (w : Tallies c t) (e : r ≡ judged a t) (all : Bytes c) where
-  pub content_refused : (old : List ℕ) → (r.number ≡ done → ⊥) → Emits (judge_whole a (some c)) old r.number 0 old
-  content_refused old h = go (alike a c t w all)
-    where
-      go : Alike a c t → Emits (judge_whole a (some c)) old r.number 0 old
-      go (both_refused n l p q) =
-          rw p (subst (λ m. Emits (refused n) old m 0 old) (sym (ap (λ x. x.number) (e ∙ q))) (emits_refused n old))
-      go (both_passed l m p q) = absurd (h (ap (λ x. x.number) (e ∙ q)))
-
+module _ (a : ℕ) (c : List ℕ) where
   -- A good content: its data lies between its first and its last byte.
-  pub record Data : Type 0 where
+  pub record Data (n : ℕ) : Type 0 where
     pub long : 3 ≤ length c
     pub most : length c ≤ max_content
     pub is : judge_whole a (some c) ≡ received (data_in c)
-    pub len : r.len ≡ length c - 2
+    pub len : n ≡ length c - 2
 
-  pub content_data : r.number ≡ done → Data
-  content_data h = go (alike a c t w all)
-    where
-      go : Alike a c t → Data
-      go (both_refused n l p q) = absurd (omega (arith, ltb-true 0 n l, sym (ap (λ x. x.number) (e ∙ q)) ∙ h))
-      go (both_passed l m p q) = record { long = l; most = m; is = p; len = ap (λ x. x.len) (e ∙ q) }
-
-  pub content_emits : {old new : List ℕ} {size : ℕ} → Data → Put 0 (take (r.len + 1 - 1) (drop 1 c)) old size new
+  pub content_emits : {n : ℕ} {old new : List ℕ} {size : ℕ} → Data n → Put 0 (take (n + 1 - 1) (drop 1 c)) old size new
       → Emits (judge_whole a (some c)) old done size new
-  content_emits {old} {new} {size} d p =
-      let n : r.len + 1 - 1 ≡ length c - 2 = omega (arith, d.len) in
-      rw d.is (put_emits (subst (λ n. Put 0 (take n (drop 1 c)) old size new) n p))
+  content_emits {n} {old} {new} {size} d p =
+      let k : n + 1 - 1 ≡ length c - 2 = omega (arith, d.len) in
+      rw d.is (put_emits (subst (λ n. Put 0 (take n (drop 1 c)) old size new) k p))
+
+  module _ {t : Tally} (w : Tallies c t) (all : Bytes c) where
+    pub content_refused : (old : List ℕ) {e : Refusal} → Err e ≡ judged a t
+        → Emits (judge_whole a (some c)) old (refusal_number e) 0 old
+    content_refused old {e} h = go (alike a c t w all)
+      where
+        go : Alike a c t → Emits (judge_whole a (some c)) old (refusal_number e) 0 old
+        go (both_refused e' p q) =
+            let same : e' ≡ e = cc in
+            rw (p, same) (emits_refused (refusal_number e) old)
+        go (both_passed l m p q) = absurd (cc)
+
+    pub content_data : {n : ℕ} → Ok n ≡ judged a t → Data n
+    content_data {n} h = go (alike a c t w all)
+      where
+        go : Alike a c t → Data n
+        go (both_refused e p q) = absurd (cc)
+        go (both_passed l m p q) = record { long = l; most = m; is = p; len = cc }

@@ -1,13 +1,12 @@
 -- A serial string, read piece by piece.
 -- Assumes nothing.
-use Rattle.std.proofs.Common.{◌≡◌, ℕ, suc, ◌+◌, ◌-◌, ◌<◌, ◌≤◌, Bool, true, false, cond, eqb, List, [], ◌∷◌, ◌++◌, length, get_or, drop, sym, refl, ap, ◌∙◌, subst, ap₂, append_assoc, append-nil, add-one, arith, length-append, length-drop, drop_of_length-le, drop-cons, drop-drop, eq-eqb, ne_eqb, eqb-true}
+use Rattle.std.proofs.Common.{Some, None, ◌≡◌, ℕ, suc, ◌+◌, ◌-◌, ◌<◌, ◌≤◌, Bool, true, false, cond, eqb, List, [], ◌∷◌, ◌++◌, length, get_or, drop, sym, refl, ap, ◌∙◌, subst, ap₂, append_assoc, append-nil, add-one, arith, length-append, length-drop, drop_of_length-le, drop-cons, drop-drop, eq-eqb, ne_eqb, eqb-true}
 use mathlib.Core.Option.{none, some}
 use Rattle.protocol.specs.Numbers.{DLE, ETX}
 use Rattle.protocol.specs.Bytes.{sum}
 use Rattle.protocol.specs.Frame.{doubled, double, undouble, at_end}
 use Rattle.protocol.proofs.FrameLaws.{double_snoc, undouble_dle, undouble_end, undouble_bad, prepend, undouble_behind}
 use Rattle.frame.specs.declared.read.Tally.{Tally}
-use Rattle.frame.specs.declared.read.Scan.TheVariants.{Whole, Broken}
 use Rattle.frame.specs.declared.read.Piece.{Piece}
 use Rattle.frame.specs.declared.read.Piece.TheVariants.{Lone, Doubled, End, Bad}
 use Rattle.frame.specs.Steps.{ending, pair, piece_of, Tallies, OneMore, ScanOf}
@@ -183,13 +182,13 @@ module _ (s : List ℕ) (i : ℕ) {t : Tally} (w : Scanning s t i) where
   rest : undouble false (drop 2 s) ≡ prepend w.content (undouble false (drop i s))
   rest = ap (undouble false) w.passed ∙ undouble_behind w.content (drop i s)
 
-  pub whole : End ≡ piece_of (drop i s) → ScanOf (undouble false (drop 2 s)) (Whole t)
+  pub whole : End ≡ piece_of (drop i s) → ScanOf (undouble false (drop 2 s)) (Some t)
   whole e =
       rw (rest ∙ ap (prepend w.content) (says_at e)) (subst (λ l. Tallies l t) (sym (append-nil w.content)) w.tally)
 
-  pub broken : Bad ≡ piece_of (drop i s) → ScanOf (undouble false (drop 2 s)) Broken
+  pub broken : Bad ≡ piece_of (drop i s) → ScanOf (undouble false (drop 2 s)) None
   broken e = rw (rest ∙ ap (prepend w.content) (says_at e)) tt
 
-  pub unended : length s ≤ i → ScanOf (undouble false (drop 2 s)) Broken
+  pub unended : length s ≤ i → ScanOf (undouble false (drop 2 s)) None
   unfolding undouble
   unended h = rw (rest ∙ ap (λ l. prepend w.content (undouble false l)) (drop_of_length-le s h)) tt

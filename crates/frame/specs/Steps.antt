@@ -1,14 +1,14 @@
 -- No public promise is stated by these definitions: they follow the code step by step.
-use Rattle.std.specs.Prelude.{◌≡◌, ℕ, zero, suc, ◌+◌, ◌-◌, ◌%◌, ◌^◌, cond, List, [], ◌∷◌, ◌++◌, length, drop, ◌==◌, nat_lt, slice_index}
-use Rattle.std.proofs.Math.Option.{Option, none, some}
-use Rattle.protocol.specs.Numbers.{done, too_short, too_long, bad_checksum, other_address, DLE, ETX, max_content}
+use Rattle.std.specs.Prelude.{Option, Some, None, Result, Ok, Err, ◌≡◌, ℕ, zero, suc, ◌+◌, ◌-◌, ◌%◌, ◌^◌, cond, List, [], ◌∷◌, ◌++◌, length, drop, ◌==◌, nat_lt, slice_index}
+use Rattle.std.proofs.Math.Option as math
+use Rattle.protocol.specs.Numbers.{DLE, ETX, max_content}
 use Rattle.protocol.specs.Bytes.{sum}
-use Rattle.protocol.specs.Frame.{doubled, double, read_frame}
+use Rattle.protocol.specs.Frame.{received, refused, doubled, double, read_frame}
 use Rattle.protocol.specs.Buffer.{Put}
-use Rattle.frame.specs.declared.read.Checked.{Checked}
+use Rattle.protocol.specs.declared.Refusal.{Refusal}
+use Rattle.protocol.specs.declared.Refusal.TheVariants.{TooShort, TooLong, BadChecksum, OtherAddress}
+use Rattle.protocol.specs.Refusal.{refusal_number}
 use Rattle.frame.specs.declared.read.Tally.{Tally}
-use Rattle.frame.specs.declared.read.Scan.{Scan}
-use Rattle.frame.specs.declared.read.Scan.TheVariants.{Whole, Broken}
 use Rattle.frame.specs.declared.read.Piece.{Piece}
 use Rattle.frame.specs.declared.read.Piece.TheVariants.{Lone, Doubled, End, Bad}
 
@@ -53,29 +53,23 @@ pub record OneMore (t : Tally) (b : ℕ) (r : Tally) : Type 0 where
   pub first : r.first ≡ cond (t.count == 0) b t.first
 
 -- What a pass finds of bytes that have a content, and of bytes that have none.
-abbrev pub ScanOf : Option (List ℕ) → Scan → Type 0
-ScanOf none (Whole t) = ⊥
-ScanOf none Broken = Unit {0}
-ScanOf (some c) (Whole t) = Tallies c t
-ScanOf (some c) Broken = ⊥
+abbrev pub ScanOf : math.Option (List ℕ) → Option Tally → Type 0
+ScanOf math.none (Some t) = ⊥
+ScanOf math.none None = Unit {0}
+ScanOf (math.some c) (Some t) = Tallies c t
+ScanOf (math.some c) None = ⊥
 
--- A refusal, and a content that passes for an address.
-abbrev pub failed : ℕ → Checked
-failed n = record { number = n; len = 0; start = 0 }
-
-abbrev pub passed : ℕ → ℕ → Checked
-passed address count = record { number = done; len = count - 2; start = 2 + length (doubled address) }
-
--- The judgement of a content by its tally: where the checksum is right, all bytes of the content sum up to 255.
-unfoldable pub judged : ℕ → Tally → Checked
+-- The judgement of a content by its tally: where the checksum is right, all bytes of the content sum up to 255. A content that
+-- passes has its data between its first and its last byte.
+unfoldable pub judged : ℕ → Tally → Result ℕ Refusal
 judged address t =
     cond (nat_lt t.count 3)
-    (failed too_short)
+    (Err TooShort)
     (cond (nat_lt max_content t.count)
-    (failed too_long)
+    (Err TooLong)
     (cond (t.sum == 255)
-    (cond (t.first == address) (passed address t.count) (failed other_address))
-    (failed bad_checksum)))
+    (cond (t.first == address) (Ok (t.count - 2)) (Err OtherAddress))
+    (Err BadChecksum)))
 
 -- The first n content bytes of doubled bytes, or as many as there are: behind a 10h its second byte is passed over.
 unfoldable pub content_from : ℕ → List ℕ → List ℕ
@@ -83,10 +77,8 @@ content_from zero bs = []
 content_from (suc n) [] = []
 content_from (suc n) (b ∷ bs) = b ∷ content_from n (drop (length (doubled b)) (b ∷ bs))
 
--- What `check_frame` says of a string read for an address: number, length of the data, and where the data stands (0 on a
--- refusal); the data is the content from there on.
-pub record Checks (address : ℕ) (s : List ℕ) (r : Checked) : Type 0 where
-  pub number : r.number ≡ (read_frame address s).number
-  pub len : r.len ≡ length (read_frame address s).payload
-  pub start : r.start ≡ cond ((read_frame address s).number == done) (2 + length (doubled address)) 0
-  pub content : content_from r.len (drop r.start s) ≡ (read_frame address s).payload
+-- What `check_frame` says of a string read for an address: its refusal, or how long its data is, which is the content from behind
+-- the address on.
+abbrev pub Checks : ℕ → List ℕ → Result ℕ Refusal → Type 0
+Checks address s (Ok n) = read_frame address s ≡ received (content_from n (drop (2 + length (doubled address)) s))
+Checks address s (Err e) = read_frame address s ≡ refused (refusal_number e)

@@ -5,5 +5,5 @@ ghost use Rattle.frame.specs.Steps.{Adds};
 pub(crate) fn add(kept: u8, b: u8) -> u8
     ensures { Adds kept b result }
 {
-    std::num::wrapping_add_u8(kept, b)
+    kept.wrapping_add(b)
 }

@@ -4,13 +4,11 @@ ghost use Rattle.std.proofs.Math.Option.{some};
 ghost use Rattle.protocol.specs.Frame.{doubled, undouble, judge_whole, read_frame, cut, if_room};
 ghost use Rattle.protocol.specs.Numbers.{room_data};
 ghost use Rattle.protocol.specs.Buffer.{Put, Emits};
+ghost use Rattle.protocol.specs.Refusal.{number_told, length_told};
 ghost use Rattle.frame.specs.Steps.{piece_of, Tallies, OneMore, ScanOf, judged, Checks, content_from};
 
-use super::{Written, buffer, checksum};
-use protocol::{
-    BAD_CHECKSUM, BAD_PAIR, DLE, DONE, ETX, MAX_CONTENT, NO_PREAMBLE, NO_ROOM, OTHER_ADDRESS,
-    ROOM_DATA, STX, TOO_LONG, TOO_SHORT,
-};
+use super::{buffer, checksum};
+use protocol::{DLE, ETX, MAX_CONTENT, ROOM_DATA, Refusal, STX};
 
 // What stands at a place after 10 02: a lone byte, a doubled 10h, the 10 03 at the very end, or anything else.
 #[derive(Drop)]
@@ -59,29 +57,16 @@ fn add_byte(t: Tally, b: u8) -> Tally
     requires { t.count < 2 ^ 63 }
     ensures { OneMore t b result }
 {
-    let sum = checksum::add(t.sum, b);
-    if t.count == 0 {
-        return Tally {
-            count: 1,
-            sum,
-            first: b,
-        };
-    }
+    let first = if t.count == 0 { b } else { t.first };
     Tally {
         count: t.count + 1,
-        sum,
-        first: t.first,
+        sum: checksum::add(t.sum, b),
+        first,
     }
 }
 
-// What one pass over the bytes after 10 02 finds: their content's tally, or that they are no content with 10 03 at its end.
-#[derive(Drop)]
-pub(crate) enum Scan {
-    Whole(Tally),
-    Broken,
-}
-
-fn scan_string(s: &[u8]) -> Scan
+// One pass over the bytes after 10 02: their content's tally, or none where they are no content with 10 03 at its end.
+fn scan_string(s: &[u8]) -> Option<Tally>
     requires { 2 ≤ length s.now }
     ensures { ScanOf (undouble false (drop 2 s.now)) result }
 {
@@ -101,20 +86,11 @@ fn scan_string(s: &[u8]) -> Scan
                 t = add_byte(t, DLE);
                 i += 2;
             }
-            Piece::End => return Scan::Whole(t),
-            Piece::Bad => return Scan::Broken,
+            Piece::End => return Some(t),
+            Piece::Bad => return None,
         }
     }
-    Scan::Broken
-}
-
-// What is known of a string that was read for an address: its number and, with 0, how long its data is and where in the
-// string the data starts. With any other number both are 0.
-#[derive(Drop)]
-pub(crate) struct Checked {
-    pub number: u8,
-    pub len: usize,
-    pub start: usize,
+    None
 }
 
 // How many bytes a byte takes in a frame.
@@ -127,62 +103,36 @@ fn width(b: u8) -> usize
     1
 }
 
-// A content judged by its tally: 4, 5, 6, 7 or 0.
-fn judge(address: u8, t: Tally) -> Checked
+// A content judged by its tally: 4, 5, 6, 7 or how many bytes its data has.
+fn judge(address: u8, t: Tally) -> Result<usize, Refusal>
     ensures { result ≡ judged address t }
 {
-    let mut r = Checked {
-        number: DONE,
-        len: 0,
-        start: 0,
-    };
     if t.count < 3 {
-        r.number = TOO_SHORT;
-        return r;
+        return Err(Refusal::TooShort);
     }
     if MAX_CONTENT < t.count {
-        r.number = TOO_LONG;
-        return r;
+        return Err(Refusal::TooLong);
     }
     if t.sum != 255 {
-        r.number = BAD_CHECKSUM;
-        return r;
+        return Err(Refusal::BadChecksum);
     }
     if t.first != address {
-        r.number = OTHER_ADDRESS;
-        return r;
+        return Err(Refusal::OtherAddress);
     }
-    r.len = t.count - 2;
-    r.start = 2 + width(address);
-    r
+    Ok(t.count - 2)
 }
 
-// A serial string read for an address, with no output: the number, and where the data stands.
-fn check_frame(address: u8, s: &[u8]) -> Checked
+// A serial string read for an address, with no output: its refusal, or how many bytes its data has.
+fn check_frame(address: u8, s: &[u8]) -> Result<usize, Refusal>
     ensures { Checks address s.now result }
 {
-    let unopened = Checked {
-        number: NO_PREAMBLE,
-        len: 0,
-        start: 0,
+    if s.len() < 2 || s[0] != DLE || s[1] != STX {
+        return Err(Refusal::NoPreamble);
+    }
+    let Some(t) = scan_string(s) else {
+        return Err(Refusal::BadPair);
     };
-    if s.len() < 2 {
-        return unopened;
-    }
-    if s[0] != DLE {
-        return unopened;
-    }
-    if s[1] != STX {
-        return unopened;
-    }
-    match scan_string(s) {
-        Scan::Whole(t) => judge(address, t),
-        Scan::Broken => Checked {
-            number: BAD_PAIR,
-            len: 0,
-            start: 0,
-        },
-    }
+    judge(address, t)
 }
 
 // Content bytes of a string, from a place on, copied to the front of an output: n of them, or as many as there are. Returns
@@ -192,58 +142,38 @@ fn copy_content(s: &[u8], from: usize, n: usize, out: &mut [u8]) -> usize
     ensures { Put 0 (content_from n (drop from s.now)) out.old result out.new }
 {
     let mut i = from;
-    let mut k = 0;
-    while k < n {
+    for k in 0..n {
         if s.len() <= i {
             return k;
         }
-        let b = s[i];
-        k = buffer::put(out, k, b);
-        i += 1;
-        if b == DLE {
-            if s.len() <= i {
-                return k;
-            }
-            i += 1;
-        }
+        out[k] = s[i];
+        i += width(s[i]);
     }
-    k
+    n
 }
 
 // The same into an output of any length: as many as there is room for.
 fn copy_fitting(s: &[u8], from: usize, n: usize, out: &mut [u8]) -> usize
     ensures { Put 0 (take (length out.old) (content_from n (drop from s.now))) out.old result out.new }
 {
-    let room = out.len();
-    if room < n {
-        return copy_content(s, from, room, out);
-    }
-    copy_content(s, from, n, out)
+    copy_content(s, from, n.min(out.len()), out)
 }
 
 // A serial string read for an address, and as many bytes of its data as there is room for put at the front of a lent output:
-// 2, 3, 4, 5, 6, 7 or 0.
-pub fn read_front(address: u8, s: &[u8], out: &mut [u8]) -> Written
-    ensures { Emits (cut (length out.old) (read_frame address s.now)) out.old result.number result.len out.new }
+// 2, 3, 4, 5, 6, 7 or how many.
+pub fn read_front(address: u8, s: &[u8], out: &mut [u8]) -> Result<usize, Refusal>
+    ensures { Emits (cut (length out.old) (read_frame address s.now)) out.old (number_told result) (length_told result) out.new }
 {
-    let checked = check_frame(address, s);
-    let number = checked.number;
-    if number != DONE {
-        return Written { number, len: 0 };
-    }
-    let len = copy_fitting(s, checked.start, checked.len, out);
-    Written { number: DONE, len }
+    let len = check_frame(address, s)?;
+    Ok(copy_fitting(s, 2 + width(address), len, out))
 }
 
-// A serial string read for an address into a lent output: 8, 2, 3, 4, 5, 6, 7 or 0.
-pub fn read_frame(address: u8, s: &[u8], out: &mut [u8]) -> Written
-    ensures { Emits (if_room room_data (length out.old) (read_frame address s.now)) out.old result.number result.len out.new }
+// A serial string read for an address into a lent output: 8, 2, 3, 4, 5, 6, 7 or the length of its data.
+pub fn read_frame(address: u8, s: &[u8], out: &mut [u8]) -> Result<usize, Refusal>
+    ensures { Emits (if_room room_data (length out.old) (read_frame address s.now)) out.old (number_told result) (length_told result) out.new }
 {
     if out.len() < ROOM_DATA {
-        return Written {
-            number: NO_ROOM,
-            len: 0,
-        };
+        return Err(Refusal::NoRoom);
     }
     read_front(address, s, out)
 }
@@ -257,32 +187,21 @@ fn tally_of(content: &[u8]) -> Tally
         sum: 0,
         first: 0,
     };
-    let mut i = 0;
-    while i < content.len() {
-        t = add_byte(t, content[i]);
-        i += 1;
+    for b in content {
+        t = add_byte(t, *b);
     }
     t
 }
 
 // A content that lies in one piece judged for an address, and its data put at the front of a lent output where it is good: 8,
-// 4, 5, 6, 7 or 0.
-pub fn read_content(address: u8, content: &[u8], out: &mut [u8]) -> Written
-    ensures { Emits (if_room room_data (length out.old) (judge_whole address (some content.now))) out.old result.number result.len out.new }
+// 4, 5, 6, 7 or the length of its data.
+pub fn read_content(address: u8, content: &[u8], out: &mut [u8]) -> Result<usize, Refusal>
+    ensures { Emits (if_room room_data (length out.old) (judge_whole address (some content.now))) out.old (number_told result) (length_told result) out.new }
 {
-    let room = out.len();
-    if room < ROOM_DATA {
-        return Written {
-            number: NO_ROOM,
-            len: 0,
-        };
+    if out.len() < ROOM_DATA {
+        return Err(Refusal::NoRoom);
     }
-    let checked = judge(address, tally_of(content));
-    let number = checked.number;
-    if number != DONE {
-        return Written { number, len: 0 };
-    }
-    let end = checked.len + 1;
-    let len = buffer::put_all(&content[1..end], out, 0);
-    Written { number: DONE, len }
+    let len = judge(address, tally_of(content))?;
+    let end = len + 1;
+    Ok(buffer::put_all(&content[1..end], out, 0))
 }

@@ -1,18 +1,19 @@
 // How many bytes data may have.
 ghost use Rattle.std.specs.Prelude.{◌≡◌};
 ghost use Rattle.protocol.specs.Frame.{size_number};
+ghost use Rattle.protocol.specs.Refusal.{number_told};
 
-use protocol::{DONE, MAX_DATA, TOO_LONG, TOO_SHORT};
+use protocol::{MAX_DATA, Refusal};
 
-// 4 for data of no bytes, 5 for more than 256, and else 0.
-pub fn size_number(n: usize) -> u8
-    ensures { result ≡ size_number n }
+// 4 for data of no bytes, 5 for more than 256.
+pub fn check_size(n: usize) -> Result<(), Refusal>
+    ensures { number_told result ≡ size_number n }
 {
     if n == 0 {
-        return TOO_SHORT;
+        return Err(Refusal::TooShort);
     }
     if MAX_DATA < n {
-        return TOO_LONG;
+        return Err(Refusal::TooLong);
     }
-    DONE
+    Ok(())
 }

@@ -1,12 +1,13 @@
 // Serial frames, written.
 ghost use Rattle.std.specs.Prelude.{◌+◌, ◌*◌, ◌≤◌, length};
 ghost use Rattle.protocol.specs.Numbers.{room_serial};
+ghost use Rattle.protocol.specs.Refusal.{number_told, length_told};
 ghost use Rattle.protocol.specs.Frame.{frame, write_frame, if_room};
 ghost use Rattle.protocol.specs.Buffer.{Put, Emits};
 ghost use Rattle.frame.specs.Steps.{PutBody};
 
-use super::{Written, buffer, checksum, size};
-use protocol::{DLE, DONE, ETX, NO_ROOM, ROOM_SERIAL, STX};
+use super::{buffer, checksum, size};
+use protocol::{DLE, ETX, ROOM_SERIAL, Refusal, STX};
 
 // The place after what was put, and the sum of address and data before doubling.
 #[derive(Drop)]
@@ -22,12 +23,9 @@ fn put_body(payload: &[u8], out: &mut [u8], from: usize, address: u8) -> Body
 {
     let mut at = from;
     let mut sum = address;
-    let mut i = 0;
-    while i < payload.len() {
-        let b = payload[i];
-        at = buffer::put_doubled(out, at, b);
-        sum = checksum::add(sum, b);
-        i += 1;
+    for b in payload {
+        at = buffer::put_doubled(out, at, *b);
+        sum = checksum::add(sum, *b);
     }
     Body { at, sum }
 }
@@ -46,20 +44,13 @@ fn put_frame(address: u8, payload: &[u8], out: &mut [u8]) -> usize
     buffer::put(out, closing, ETX)
 }
 
-// Data framed for an address: 8, 4, 5 or 0.
-pub fn write_frame(address: u8, payload: &[u8], out: &mut [u8]) -> Written
-    ensures { Emits (if_room room_serial (length out.old) (write_frame address payload.now)) out.old result.number result.len out.new }
+// Data framed for an address: 8, 4, 5 or the length of the frame.
+pub fn write_frame(address: u8, payload: &[u8], out: &mut [u8]) -> Result<usize, Refusal>
+    ensures { Emits (if_room room_serial (length out.old) (write_frame address payload.now)) out.old (number_told result) (length_told result) out.new }
 {
     if out.len() < ROOM_SERIAL {
-        return Written {
-            number: NO_ROOM,
-            len: 0,
-        };
+        return Err(Refusal::NoRoom);
     }
-    let number = size::size_number(payload.len());
-    if number != DONE {
-        return Written { number, len: 0 };
-    }
-    let len = put_frame(address, payload, out);
-    Written { number: DONE, len }
+    size::check_size(payload.len())?;
+    Ok(put_frame(address, payload, out))
 }

@@ -4,4 +4,4 @@ use Rattle.protocol.proofs.ListLaws.{sum_snoc}
 use Rattle.frame.proofs.checksum.add.Goals as goal
 
 pub returns : goal.returns
-returns c bs e = omega (arith, c.wrapping_add_u8.ensures, e, sum_snoc bs c.args.b)
+returns c bs e = omega (arith, e, sum_snoc bs c.args.b)

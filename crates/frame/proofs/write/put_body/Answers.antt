@@ -3,24 +3,24 @@ use Rattle.std.proofs.Common.{◌+◌, ◌≤◌, length, arith}
 use Rattle.frame.proofs.BodyLaws.{begins, more, room_left, ends}
 use Rattle.frame.proofs.write.put_body.Goals as goal
 
-pub loop-i-init : goal.loop-i-init
-loop-i-init c =
+pub loop-b-init : goal.loop-b-init
+loop-b-init c =
     begins c.args.payload.now c.args.out.now c.args.from c.args.address
     c.requires (omega (arith, c.ranges.address.fits))
 
 pub put_doubled-at-requires : goal.put_doubled-at-requires
 put_doubled-at-requires c =
-    let left : c.loop-i.at + 2 ≤ length c.loop-i.out =
+    let left : c.loop-b.at + 2 ≤ length c.loop-b.out =
     room_left c.args.payload.now c.args.out.now c.args.from c.args.address c.requires
-    c.loop-i.invariant c.loop-i-test.true in
+    c.loop-b.invariant c.loop-b-test.true in
     left
 
-pub loop-i-preserved : goal.loop-i-preserved
-loop-i-preserved c =
+pub loop-b-preserved : goal.loop-b-preserved
+loop-b-preserved c =
     more c.args.payload.now c.args.out.now c.args.from c.args.address c.requires
-    c.loop-i.invariant c.loop-i-test.true c.put_doubled-at.ensures c.add-sum.ensures
+    c.loop-b.invariant c.loop-b-test.true c.put_doubled-at.ensures c.add-sum.ensures
 
 pub returns : goal.returns
 returns c =
     ends c.args.payload.now c.args.out.now c.args.from c.args.address c.requires
-    c.loop-i.invariant c.loop-i-test.false
+    c.loop-b.invariant c.loop-b-test.false

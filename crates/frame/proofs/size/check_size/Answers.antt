@@ -1,7 +1,7 @@
--- `frame::size::size_number` meets its contract. Assumes nothing.
+-- `frame::size::check_size` meets its contract. Assumes nothing.
 use Rattle.std.proofs.Common.{le-ltb, lt-ltb, eq-eqb, ne_eqb}
 use Rattle.protocol.specs.Frame.{size_number}
-use Rattle.frame.proofs.size.size_number.Goals as goal
+use Rattle.frame.proofs.size.check_size.Goals as goal
 
 pub returns-then-n-eq0 : goal.returns-then-n-eq0
 unfolding size_number
