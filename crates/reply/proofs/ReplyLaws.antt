@@ -1,8 +1,15 @@
 -- Parts put one behind the other are a reply's body.
 -- Assumes nothing.
 use Prim.Native.Nat.{ℕ}
-use mathlib.Core.Path.{◌≡◌, sym, ap}
+use mathlib.Core.Path.{◌≡◌}
 use mathlib.Core.List.{List, [], ◌∷◌}
+use mathlib.Core.Bool.{false, true≢false}
+use native.Mathlib.Omega.{arith}
+use denote.Enum.Bare.{sameb}
+use Rattle.protocol.specs.contracts.Op.{the_type}
+use Rattle.protocol.specs.declared.Op.{Op}
+use Rattle.protocol.specs.declared.Op.TheVariants.{Detect, Node, Record, Read, Write, WriteExtended}
+use Rattle.protocol.specs.Refusal.{op_number}
 use borrow.Author.Tests.{eq-eqb, ne_eqb}
 use lib.ListN.{length}
 use Rattle.protocol.specs.Numbers.{op_write}
@@ -13,8 +20,6 @@ use Rattle.protocol.specs.Answer.{Outcome, save_byte, reason, record_texts, node
 use Rattle.protocol.proofs.BufferLaws.{fit_as, fits_join}
 use Rattle.tree.specs.declared.record.Fields.{Fields}
 use Rattle.tree.specs.Lookup.{FieldsAre, numbers_of}
-use Rattle.reply.specs.declared.write.Outcome as written
-use Rattle.reply.specs.Outcome.{meaning}
 use Rattle.reply.specs.Steps.{numbers_in}
 
 module _ {at n n' : ℕ} {old mid new : List ℕ} where
@@ -42,7 +47,11 @@ pub put_write_body : (o : Outcome) {op save at n : ℕ} {old new : List ℕ} →
     → Put at (fitting at (save ∷ []) old) old n new → Put at (fitting at (write_body o op) old) old n new
 put_write_body o {op} h e p = fit_as (simp (e, eq-eqb op op_write h)) p
 
--- The text of op 5, where it is known what a write did.
-pub put_reason_of : {o o' : written.Outcome} {at n : ℕ} {old new : List ℕ} → o ≡ o'
-    → Put at (fitting at (text (reason (meaning o'))) old) old n new → Put at (fitting at (text (reason (meaning o))) old) old n new
-put_reason_of e p = fit_as (sym (ap (λ o. text (reason (meaning o))) e)) p
+-- An operation that is not 4 has another number.
+pub other_op : (op : Op) → sameb the_type op Write ≡ false → op_number op ≡ op_write → ⊥
+other_op Detect e h = omega (arith, h)
+other_op Node e h = omega (arith, h)
+other_op Record e h = omega (arith, h)
+other_op Read e h = omega (arith, h)
+other_op Write e h = true≢false e
+other_op WriteExtended e h = omega (arith, h)

@@ -8,6 +8,7 @@ ghost use Rattle.std.specs.Prelude.{◌≡◌};
 ghost use Rattle.protocol.specs.Bytes.{text};
 ghost use Rattle.protocol.specs.Buffer.{fitting, Put};
 ghost use Rattle.protocol.specs.Tree.{property_in};
+ghost use Rattle.protocol.specs.Refusal.{op_number};
 ghost use Rattle.protocol.specs.Answer.{reason, node_body, record_body, read_body, write_body};
 ghost use Rattle.tree.specs.Seen.{seen};
 ghost use Rattle.tree.specs.Lookup.{numbers_of};
@@ -15,7 +16,7 @@ ghost use Rattle.reply.specs.Outcome.{meaning};
 ghost use Rattle.reply.specs.Steps.{numbers_in};
 
 use frame::buffer;
-use protocol::{OP_WRITE, STATUS_OK};
+use protocol::{Op, STATUS_OK};
 use tree::record;
 use tree::record::Fields;
 use write::Outcome;
@@ -33,21 +34,11 @@ pub fn put_node(tree: &[u8], node: usize, out: &mut [u8], at: usize) -> usize
 fn numbers(f: Fields) -> [u8; 13]
     ensures { result ≡ numbers_in (numbers_of f) }
 {
-    [
-        f.kind,
-        (f.min / 16777216 % 256) as u8,
-        (f.min / 65536 % 256) as u8,
-        (f.min / 256 % 256) as u8,
-        (f.min % 256) as u8,
-        (f.max / 16777216 % 256) as u8,
-        (f.max / 65536 % 256) as u8,
-        (f.max / 256 % 256) as u8,
-        (f.max % 256) as u8,
-        (f.attribute / 256 % 256) as u8,
-        (f.attribute % 256) as u8,
-        (f.format / 256 % 256) as u8,
-        (f.format % 256) as u8,
-    ]
+    let [a, b, c, d] = word::bytes_of(f.min);
+    let [e, g, h, i] = word::bytes_of(f.max);
+    let [j, k] = word::half_bytes_of(f.attribute);
+    let [m, n] = word::half_bytes_of(f.format);
+    [f.kind, a, b, c, d, e, g, h, i, j, k, m, n]
 }
 
 // Op 2: the property's numbers and texts.
@@ -62,13 +53,8 @@ pub fn put_record(tree: &[u8], place: usize, out: &mut [u8], at: usize) -> usize
 fn reading(n: u32) -> [u8; 5]
     ensures { result ≡ read_body n }
 {
-    [
-        STATUS_OK,
-        (n / 16777216 % 256) as u8,
-        (n / 65536 % 256) as u8,
-        (n / 256 % 256) as u8,
-        (n % 256) as u8,
-    ]
+    let [a, b, c, d] = word::bytes_of(n);
+    [STATUS_OK, a, b, c, d]
 }
 
 // Op 3: the word.
@@ -78,27 +64,27 @@ pub fn put_reading(n: u32, out: &mut [u8], at: usize) -> usize
     buffer::put_all(&reading(n), out, at)
 }
 
-// The text of op 5.
-fn put_reason(o: Outcome, out: &mut [u8], at: usize) -> usize
-    ensures { Put at (fitting at (text (reason (meaning o))) out.old) out.old result out.new }
+// The text of op 5, with its zero.
+#[tactic(auto, unfolding(protocol::specs::Bytes::text, protocol::specs::Answer::reason))]
+fn reason(o: Outcome) -> &'static [u8]
+    ensures { result.now ≡ text (reason (meaning o)) }
 {
     match o {
-        Outcome::Saved => buffer::put_all(b"\0", out, at),
-        Outcome::Taken => buffer::put_all(b"\0", out, at),
-        Outcome::ReadOnly => buffer::put_all(b"Read only\0", out, at),
-        Outcome::OutOfRange => buffer::put_all(b"Range\0", out, at),
-        Outcome::OffStep => buffer::put_all(b"Step\0", out, at),
+        Outcome::Saved | Outcome::Taken => b"\0",
+        Outcome::ReadOnly => b"Read only\0",
+        Outcome::OutOfRange => b"Range\0",
+        Outcome::OffStep => b"Step\0",
     }
 }
 
 // Ops 4 and 5: the save byte, and for op 5 the text.
-pub fn put_written(o: Outcome, op: u8, out: &mut [u8], at: usize) -> usize
-    ensures { Put at (fitting at (write_body (meaning o) op) out.old) out.old result out.new }
+pub fn put_written(o: Outcome, op: Op, out: &mut [u8], at: usize) -> usize
+    ensures { Put at (fitting at (write_body (meaning o) (op_number op)) out.old) out.old result out.new }
 {
     let save = [write::save_byte(o)];
     let saved = buffer::put_all(&save, out, at);
-    if op == OP_WRITE {
+    if op == Op::Write {
         return saved;
     }
-    put_reason(o, out, saved)
+    buffer::put_all(reason(o), out, saved)
 }

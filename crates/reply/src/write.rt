@@ -47,14 +47,13 @@ pub fn outcome_of(tree: &[u8], place: usize, value: u32) -> Outcome
     outcome_by(record::read_fields(tree, place), value)
 }
 
+#[tactic(auto, unfolding(protocol::specs::Answer::save_byte))]
 pub(crate) fn save_byte(o: Outcome) -> u8
     ensures { result ≡ save_byte (meaning o) }
 {
     match o {
         Outcome::Saved => SAVE_DONE,
         Outcome::Taken => SAVE_NONE,
-        Outcome::ReadOnly => SAVE_FAILED,
-        Outcome::OutOfRange => SAVE_FAILED,
-        Outcome::OffStep => SAVE_FAILED,
+        Outcome::ReadOnly | Outcome::OutOfRange | Outcome::OffStep => SAVE_FAILED,
     }
 }
