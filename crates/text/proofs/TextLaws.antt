@@ -1,4 +1,4 @@
--- Text laid as far as there is room: a number digit by digit, bytes told one after the other, and a line.
+-- Text put into an output: a number digit by digit, bytes told one after the other, and a line.
 -- Assumes nothing.
 use Prim.Native.Nat.{ℕ, ◌+◌, ◌-◌, ◌/◌, ◌%◌, ◌^◌, ◌<◌, ◌≤◌}
 use native.Mathlib.Omega.{arith}
@@ -6,55 +6,54 @@ use native.Mathlib.Numerals.{add-one}
 use native.Mathlib.Nat.{mod-eq_of_lt}
 use mathlib.Core.Path.{◌≡◌, sym, ap, ◌∙◌}
 use mathlib.Core.Bool.{Bool, true, false}
-use mathlib.Core.List.{List, [], ◌∷◌, ◌++◌, append_assoc, append-nil}
 use mathlib.Core.Logic.{◌⊎◌, inl, inr}
+use mathlib.Core.List.{List, [], ◌∷◌, ◌++◌, append_assoc, append-nil}
 use borrow.Author.Tests.{lt-ltb, le-ltb}
 use lib.ListN.{length, take, get_or}
 use lib.Seq.{take-suc, take_all}
 use Rattle.protocol.specs.Numbers.{word_end}
-use Rattle.protocol.specs.Buffer.{farthest, Laid}
 use Rattle.protocol.specs.Text.{each, digit, decimal, dotted, dotted_on, hex_digit, hex_byte, hex, line}
 use Rattle.protocol.specs.Signed.{number_of, numeral}
-use Rattle.protocol.proofs.LayLaws.{laid_same, laid_nil, laid_as, laid_join}
 use Rattle.protocol.proofs.WalkLaws.{each_append}
 use Rattle.protocol.proofs.DecimalLaws.{decimal_small, decimal_more}
 use Rattle.protocol.proofs.SignedLaws.{plain-numeral, low_numeral, high_numeral}
+use Rattle.text.specs.declared.output.Output.{Output}
+use Rattle.text.specs.Lays.{Lays}
+use Rattle.text.proofs.LaysLaws.{lays_nil, lays_as, lays_join}
 
 -- A number of one digit, and a digit behind those of a tenth.
-pub laid_small : {at r n : ℕ} {old new : List ℕ} → n < 10 → Laid at (digit (n % 10) ∷ []) old r new → Laid at (decimal n) old r new
-laid_small {n = n} h p = laid_as (ap (λ d. digit d ∷ []) (mod-eq_of_lt h) ∙ sym (decimal_small n h)) p
+pub small_put : {n : ℕ} {a b : Output} → n < 10 → Lays (digit (n % 10) ∷ []) a b → Lays (decimal n) a b
+small_put {n} h p = lays_as (ap (λ d. digit d ∷ []) (mod-eq_of_lt h) ∙ sym (decimal_small n h)) p
 
-pub laid_more : {at r r' n : ℕ} {old mid new : List ℕ} → length old < farthest → 10 ≤ n
-    → Laid at (decimal (n / 10)) old r mid → Laid r (digit (n % 10) ∷ []) mid r' new → Laid at (decimal n) old r' new
-laid_more {n = n} h k p q = laid_as (sym (decimal_more n k)) (laid_join h p q)
+pub more_put : {n : ℕ} {a b c : Output} → 10 ≤ n → Lays (decimal (n / 10)) a b → Lays (digit (n % 10) ∷ []) b c → Lays (decimal n) a c
+more_put {n} k p q = lays_as (sym (decimal_more n k)) (lays_join p q)
 
 -- A word, signed or not: with no minus, and with one where it is below zero.
-module _ (s : Bool) (w : ℕ) {at : ℕ} {old : List ℕ} where
-  pub laid_plain : {r : ℕ} {new : List ℕ} → (s ≡ false) ⊎ ((s ≡ true) × (w ≤ 2147483647)) → Laid at (decimal w) old r new
-      → Laid at (numeral (number_of s w)) old r new
-  laid_plain h p =
-      laid_as (sym (elim h [ inl e ↦ plain-numeral s w e | inr k ↦ low_numeral s w (omega (arith, k.1)) ])) p
+module _ (s : Bool) (w : ℕ) {a b : Output} where
+  pub plain_put : (s ≡ false) ⊎ ((s ≡ true) × (w ≤ 2147483647)) → Lays (decimal w) a b → Lays (numeral (number_of s w)) a b
+  plain_put h p =
+      lays_as (sym (elim h [ inl e ↦ plain-numeral s w e | inr k ↦ low_numeral s w (omega (arith, k.1)) ])) p
 
-  pub laid_high : {r r' m : ℕ} {mid new : List ℕ} → length old < farthest → s ≡ true → 2 ^ 31 ≤ w → m ≡ word_end - w
-      → Laid at (45 ∷ []) old r mid → Laid r (decimal m) mid r' new → Laid at (numeral (number_of s w)) old r' new
-  laid_high l h k e p q = laid_as (ap (λ n. 45 ∷ decimal n) e ∙ sym (high_numeral s w h k)) (laid_join l p q)
+  pub high_put : {m : ℕ} {c : Output} → s ≡ true → 2 ^ 31 ≤ w → m ≡ word_end - w → Lays (45 ∷ []) a b → Lays (decimal m) b c
+      → Lays (numeral (number_of s w)) a c
+  high_put h k e p q = lays_as (ap (λ n. 45 ∷ decimal n) e ∙ sym (high_numeral s w h k)) (lays_join p q)
 
 -- The first i of some bytes told.
-pub record Telling (text : List ℕ → List ℕ) (bs old : List ℕ) (at : ℕ) (out : List ℕ) (next i : ℕ) : Type 0 where
+pub record Telling (text : List ℕ → List ℕ) (bs : List ℕ) (start now : Output) (i : ℕ) : Type 0 where
   pub within : i ≤ length bs
-  pub laid : Laid at (text (take i bs)) old next out
+  pub lays : Lays (text (take i bs)) start now
 
-module _ (text : List ℕ → List ℕ) (bs old : List ℕ) (at : ℕ) where
-  tell_more : {out out' ys : List ℕ} {next next' i : ℕ} → length old < farthest → Telling text bs old at out next i → i < length bs
-      → text (take i bs ++ get_or bs i 0 ∷ []) ≡ text (take i bs) ++ ys → Laid next ys out next' out' → Telling text bs old at out' next' (i + 1)
-  tell_more {i = i} h t k e p =
+module _ (text : List ℕ → List ℕ) (bs : List ℕ) {start now : Output} {i : ℕ} (t : Telling text bs start now i) where
+  tell_more : {ys : List ℕ} {next : Output} → i < length bs → text (take i bs ++ get_or bs i 0 ∷ []) ≡ text (take i bs) ++ ys
+      → Lays ys now next → Telling text bs start next (i + 1)
+  tell_more k e p =
       record {
         within = omega arith;
-        laid = laid_as (sym (ap (λ n. text (take n bs)) (add-one i) ∙ ap text (take-suc bs i 0 k) ∙ e)) (laid_join h t.laid p);
+        lays = lays_as (sym (ap (λ n. text (take n bs)) (add-one i) ∙ ap text (take-suc bs i 0 k) ∙ e)) (lays_join t.lays p);
       }
 
-  pub tell_ends : {out : List ℕ} {next i : ℕ} → Telling text bs old at out next i → length bs ≤ i → Laid at (text bs) old next out
-  tell_ends {i = i} t h = laid_as (ap text (take_all i bs h)) t.laid
+  pub tell_ends : length bs ≤ i → Lays (text bs) start now
+  tell_ends h = lays_as (ap text (take_all i bs h)) t.lays
 
 -- A hex digit: a numeral, and a letter.
 pub digit_low : (n : ℕ) → n < 10 → 48 + n ≡ hex_digit n
@@ -70,14 +69,14 @@ hex_snoc : (bs : List ℕ) (b : ℕ) → hex (bs ++ b ∷ []) ≡ hex bs ++ hex_
 unfolding each
 hex_snoc bs b = each_append hex_byte bs (b ∷ [])
 
-module _ (bs old : List ℕ) (at : ℕ) where
-  pub hex-begins : at ≤ farthest → Telling hex bs old at old at 0
+module _ (bs : List ℕ) where
+  pub hex-begins : (start : Output) → Telling hex bs start start 0
   unfolding each
-  hex-begins h = record { within = omega arith; laid = laid_nil old (omega (arith, h)) }
+  hex-begins start = record { within = omega arith; lays = lays_nil start }
 
-  pub hex_more : {out out' : List ℕ} {next next' i : ℕ} → length old < farthest → Telling hex bs old at out next i → i < length bs
-      → Laid next (hex_byte (get_or bs i 0)) out next' out' → Telling hex bs old at out' next' (i + 1)
-  hex_more {i = i} h t k p = tell_more hex bs old at h t k (hex_snoc (take i bs) (get_or bs i 0)) p
+  pub hex_more : {ys : List ℕ} {start now next : Output} {i : ℕ} → Telling hex bs start now i → i < length bs
+      → ys ≡ hex_byte (get_or bs i 0) → Lays ys now next → Telling hex bs start next (i + 1)
+  hex_more {i = i} t k e p = tell_more hex bs t k (hex_snoc (take i bs) (get_or bs i 0)) (lays_as e p)
 
 -- A path, dotted: its first number, and behind it the others, of which a loop tells the first i.
 dots_snoc : (ns : List ℕ) (n : ℕ) → dotted_on (ns ++ n ∷ []) ≡ dotted_on ns ++ 46 ∷ decimal n
@@ -86,34 +85,30 @@ dots_snoc [] n = ap (λ l. 46 ∷ l) (append-nil (decimal n))
 dots_snoc (m ∷ ns) n =
     ap (λ l. 46 ∷ (decimal m ++ l)) (dots_snoc ns n) ∙ ap (λ l. 46 ∷ l) (sym (append_assoc (decimal m) (dotted_on ns) (46 ∷ decimal n)))
 
-pub dotted_none : {old : List ℕ} {at : ℕ} (ns : List ℕ) → length ns ≡ 0 → at ≤ farthest → Laid at (dotted ns) old at old
+pub dotted_none : (ns : List ℕ) (a : Output) → length ns ≡ 0 → Lays (dotted ns) a a
 unfolding dotted
-dotted_none {old} [] h e = laid_nil old (omega (arith, e))
-dotted_none (n ∷ ns) h e = absurd (omega (arith, h))
+dotted_none [] a h = lays_nil a
+dotted_none (n ∷ ns) a h = absurd (omega (arith, h))
 
-module _ (ns old : List ℕ) (at : ℕ) where
-  pub dots_begin : at ≤ farthest → Telling dotted_on ns old at old at 0
+module _ (ns : List ℕ) where
+  pub dots_begin : (start : Output) → Telling dotted_on ns start start 0
   unfolding dotted_on
-  dots_begin k = record { within = omega arith; laid = laid_nil old (omega (arith, k)) }
+  dots_begin start = record { within = omega arith; lays = lays_nil start }
 
-  pub dots_more : {out mid out' : List ℕ} {next dot next' i n : ℕ} → length old < farthest → Telling dotted_on ns old at out next i → i < length ns
-      → Laid next (46 ∷ []) out dot mid → n ≡ get_or ns i 0 → Laid dot (decimal n) mid next' out'
-      → Telling dotted_on ns old at out' next' (i + 1)
-  dots_more {i = i} h t l p e q =
-      tell_more dotted_on ns old at h t l (dots_snoc (take i ns) (get_or ns i 0))
-      (laid_join (omega (arith, h, laid_same t.laid)) p (laid_as (ap decimal e) q))
+  pub dots_more : {start now dot next : Output} {i n : ℕ} → Telling dotted_on ns start now i → i < length ns
+      → Lays (46 ∷ []) now dot → n ≡ get_or ns i 0 → Lays (decimal n) dot next → Telling dotted_on ns start next (i + 1)
+  dots_more {i = i} t l p e q =
+      tell_more dotted_on ns t l (dots_snoc (take i ns) (get_or ns i 0)) (lays_join p (lays_as (ap decimal e) q))
 
-pub dotted-ends : {at first next i n m : ℕ} {old mid out ns : List ℕ} (path : List ℕ) → length old < farthest → path ≡ n ∷ ns → m ≡ n
-    → Laid at (decimal m) old first mid → Telling dotted_on ns mid first out next i → length ns ≤ i → Laid at (dotted path) old next out
+pub dotted-ends : {start first now : Output} {i n m : ℕ} {ns : List ℕ} (path : List ℕ) → path ≡ n ∷ ns → m ≡ n
+    → Lays (decimal m) start first → Telling dotted_on ns first now i → length ns ≤ i → Lays (dotted path) start now
 unfolding dotted
-dotted-ends {first = first} {mid = mid} {ns = ns} path h k e p t l =
-    laid_as (sym (ap dotted k)) (laid_join h (laid_as (ap decimal e) p) (tell_ends dotted_on ns mid first t l))
+dotted-ends {ns = ns} path k e p t l = lays_as (sym (ap dotted k)) (lays_join (lays_as (ap decimal e) p) (tell_ends dotted_on ns t l))
 
 -- A key, "=", a value, and the end of the line.
-pub line_laid : {at keyed named told r : ℕ} {old mid mid' mid'' new : List ℕ} (key value : List ℕ) → length old < farthest
-    → Laid at key old keyed mid → Laid keyed (61 ∷ []) mid named mid' → Laid named value mid' told mid'' → Laid told (10 ∷ []) mid'' r new
-    → Laid at (line key value) old r new
+pub line_put : {a b c d e : Output} (key value : List ℕ) → Lays key a b → Lays (61 ∷ []) b c → Lays value c d → Lays (10 ∷ []) d e
+    → Lays (line key value) a e
 unfolding line
-line_laid key value h p e q l =
-    laid_as (append_assoc (key ++ 61 ∷ []) value (10 ∷ []) ∙ append_assoc key (61 ∷ []) (value ++ 10 ∷ []))
-    (laid_join h (laid_join h (laid_join h p e) q) l)
+line_put key value p q r s =
+    lays_as (append_assoc (key ++ 61 ∷ []) value (10 ∷ []) ∙ append_assoc key (61 ∷ []) (value ++ 10 ∷ []))
+    (lays_join (lays_join (lays_join p q) r) s)

@@ -1,7 +1,8 @@
 -- 02, sections 1, 3 and 11: what a call that writes a text of any length comes to, as code has it: a length, or why nothing was written.
-use Rattle.std.specs.Prelude.{ℕ, Result, Ok, Err}
+use Rattle.std.specs.Prelude.{ℕ, List, Result, Ok, Err}
 use Rattle.protocol.specs.Numbers.{done, no_room}
 use Rattle.protocol.specs.Refusal.{refusal_number}
+use Rattle.protocol.specs.Frame.{Received}
 use Rattle.text.specs.declared.unwritten.Unwritten.{Unwritten}
 use Rattle.text.specs.declared.unwritten.Unwritten.TheVariants.{Refused, NoRoom}
 
@@ -22,3 +23,7 @@ number_written (Err e) = unwritten_number e
 abbrev pub length_written : Result ℕ Unwritten → ℕ
 length_written (Ok n) = n
 length_written (Err e) = unwritten_length e
+
+-- A text that nothing keeps from being written but the room.
+abbrev pub whole : List ℕ → Received
+whole text = record { number = done; payload = text }

@@ -2,6 +2,7 @@
 // room, from the output's place on, and moves the place behind all that it had to write: with no room at all it only counts.
 #![tactic(auto)]
 
+pub mod fill;
 pub mod line;
 pub mod number;
 pub mod output;
