@@ -9,6 +9,8 @@ use borrow.Author.Tests.{eqb-true, eqb-false, ltb-false, eq-eqb, ne_eqb, lt-ltb,
 use lib.ListN.{length, take, drop}
 use lib.Seq.{take_at}
 use lib.Dec.{eqb, ltb}
+use Rattle.protocol.specs.declared.Op.{Op}
+use Rattle.protocol.specs.Refusal.{op_number}
 use Rattle.protocol.specs.Numbers.{done, no_room, unknown_command, bad_parameter, room_serial, room_udp, PDI, op_node, op_read, op_write_extended}
 use Rattle.protocol.specs.Bytes.{word}
 use Rattle.protocol.specs.Frame.{Received, received, refused, Sized, frame, datagram, if_sized, if_done, if_room, write_frame, write_datagram}
@@ -17,6 +19,7 @@ use Rattle.protocol.specs.Request.{Request, request_of, fits, allowance, Allowed
 use Rattle.protocol.proofs.BufferLaws.{put_room, over_put, over_nil, emits_refused, emits_no_room, emits_in_room}
 use Rattle.protocol.proofs.FrameLaws.{if_sized-sized}
 use Rattle.protocol.proofs.RequestLaws.{data_of_size, data_of_sized}
+use Rattle.table.proofs.TableLaws.{known_op}
 use Rattle.compose.specs.Write.{write_request}
 
 -- The data of a request by what its op asks for.
@@ -44,13 +47,20 @@ module _ (r : Request) where
   unfolding allowance
   allow_unknown h = sym (rw (lt-ltb op_write_extended r.op h))
 
-  pub allow_unfit : r.op ≤ op_write_extended → {t : Bool} → t ≡ fits r → t ≡ false → bad_parameter ≡ allowance r
-  unfolding allowance
-  allow_unfit h e f = sym (rw (le-ltb op_write_extended r.op h, sym e ∙ f))
+module _ (n : ℕ) (path : List ℕ) (index value : ℕ) (op : Op) (is : n ≡ op_number op) {t : Bool} (same : t ≡ fits (request_of (op_number op) path index value)) where
+  known : n ≤ op_write_extended
+  known = omega (arith, is, known_op op)
 
-  pub allow_fit : r.op ≤ op_write_extended → {t : Bool} → t ≡ fits r → t ≡ true → done ≡ allowance r
+  fitting : fits (request_of n path index value) ≡ t
+  fitting = ap (λ o. fits (request_of o path index value)) is ∙ sym same
+
+  pub allow_unfit : t ≡ false → bad_parameter ≡ allowance (request_of n path index value)
   unfolding allowance
-  allow_fit h e f = sym (rw (le-ltb op_write_extended r.op h, sym e ∙ f))
+  allow_unfit h = sym (rw (le-ltb op_write_extended n known, fitting ∙ h))
+
+  pub allow_fit : t ≡ true → done ≡ allowance (request_of n path index value)
+  unfolding allowance
+  allow_fit h = sym (rw (le-ltb op_write_extended n known, fitting ∙ h))
 
 -- A request written out: with no room, what the table does not allow, and what it allows.
 module _ (least room : ℕ) (form : Request → List ℕ) (r : Request) (old : List ℕ) where

@@ -5,35 +5,26 @@ ghost use Rattle.std.specs.Prelude.{◌≡◌, ◌∷◌, ◌≤◌, length};
 ghost use Rattle.protocol.specs.Numbers.{room_serial, room_udp};
 ghost use Rattle.protocol.specs.Bytes.{word};
 ghost use Rattle.protocol.specs.Buffer.{fitting, Put, Emits};
+ghost use Rattle.protocol.specs.Refusal.{number_told, length_told};
 ghost use Rattle.protocol.specs.Request.{request_of, allowance, data_of, serial_form, udp_form};
 ghost use Rattle.compose.specs.Write.{write_request};
 
-use frame::{Written, buffer};
-use protocol::{
-    BAD_PARAMETER, DONE, NO_ROOM, OP_NODE, OP_READ, OP_WRITE_EXTENDED, PDI, PropertyIndex,
-    ROOM_SERIAL, ROOM_UDP, UNKNOWN_COMMAND,
-};
+use frame::buffer;
+use protocol::{OP_NODE, OP_READ, Op, PDI, PropertyIndex, ROOM_SERIAL, ROOM_UDP, Refusal};
 
 // An index, and a value behind a zero, the high byte first.
 fn tail_of(index: PropertyIndex, value: u32) -> [u8; 6]
     ensures { result ≡ index.0 ∷ 0 ∷ word value }
 {
-    [
-        index.0,
-        0,
-        (value / 16777216 % 256) as u8,
-        (value / 65536 % 256) as u8,
-        (value / 256 % 256) as u8,
-        (value % 256) as u8,
-    ]
+    let [first, second, third, last] = word::bytes_of(value);
+    [index.0, 0, first, second, third, last]
 }
 
 // The data of a request, from the front of an output, as far as there is room.
 pub fn put_data(op: u8, path: &[u8], index: PropertyIndex, value: u32, out: &mut [u8]) -> usize
     ensures { Put 0 (fitting 0 (data_of (request_of op path.now index.0 value)) out.old) out.old result out.new }
 {
-    let head = [PDI, op];
-    let named = buffer::put_all(&head, out, 0);
+    let named = buffer::put_all(&[PDI, op], out, 0);
     let addressed = buffer::put_all(path, out, named);
     if op <= OP_NODE {
         return addressed;
@@ -46,16 +37,14 @@ pub fn put_data(op: u8, path: &[u8], index: PropertyIndex, value: u32, out: &mut
 }
 
 // What a request is answered with when it is written out: 10, 11 or 0.
-fn allowance_of(op: u8, path: &[u8], index: PropertyIndex, value: u32) -> u8
-    ensures { result ≡ allowance (request_of op path.now index.0 value) }
+fn check_request(op: u8, path: &[u8], index: PropertyIndex, value: u32) -> Result<(), Refusal>
+    ensures { number_told result ≡ allowance (request_of op path.now index.0 value) }
 {
-    if OP_WRITE_EXTENDED < op {
-        return UNKNOWN_COMMAND;
-    }
+    let op = Op::try_from(op)?;
     if !table::all_fit(op, path, index, value) {
-        return BAD_PARAMETER;
+        return Err(Refusal::BadParameter);
     }
-    DONE
+    Ok(())
 }
 
 // The data of a request for an output of some room: 8 where any request may need more, 10, 11, or the data at the front.
@@ -67,22 +56,15 @@ fn data_for(
     index: PropertyIndex,
     value: u32,
     payload: &mut [u8],
-) -> Written
+) -> Result<usize, Refusal>
     requires { 24 ≤ length payload.old }
-    ensures { Emits (write_request least room data_of (request_of op path.now index.0 value)) payload.old result.number result.len payload.new }
+    ensures { Emits (write_request least room data_of (request_of op path.now index.0 value)) payload.old (number_told result) (length_told result) payload.new }
 {
     if room < least {
-        return Written {
-            number: NO_ROOM,
-            len: 0,
-        };
+        return Err(Refusal::NoRoom);
     }
-    let number = allowance_of(op, path, index, value);
-    if number != DONE {
-        return Written { number, len: 0 };
-    }
-    let len = put_data(op, path, index, value, payload);
-    Written { number: DONE, len }
+    check_request(op, path, index, value)?;
+    Ok(put_data(op, path, index, value, payload))
 }
 
 // A request written out in a frame for an address: 8, 10, 11 or 0.
@@ -93,25 +75,25 @@ pub fn write_serial(
     index: PropertyIndex,
     value: u32,
     out: &mut [u8],
-) -> Written
-    ensures { Emits (write_request room_serial (length out.old) (serial_form address) (request_of op path.now index.0 value)) out.old result.number result.len out.new }
+) -> Result<usize, Refusal>
+    ensures { Emits (write_request room_serial (length out.old) (serial_form address) (request_of op path.now index.0 value)) out.old (number_told result) (length_told result) out.new }
 {
     let mut payload = [0u8; 24];
-    let put = data_for(ROOM_SERIAL, out.len(), op, path, index, value, &mut payload);
-    if put.number != DONE {
-        return put;
-    }
-    frame::write::write_frame(address, &payload[..put.len], out)
+    let len = data_for(ROOM_SERIAL, out.len(), op, path, index, value, &mut payload)?;
+    frame::write::write_frame(address, &payload[..len], out)
 }
 
 // A request written out in a datagram: 8, 10, 11 or 0.
-pub fn write_udp(op: u8, path: &[u8], index: PropertyIndex, value: u32, out: &mut [u8]) -> Written
-    ensures { Emits (write_request room_udp (length out.old) udp_form (request_of op path.now index.0 value)) out.old result.number result.len out.new }
+pub fn write_udp(
+    op: u8,
+    path: &[u8],
+    index: PropertyIndex,
+    value: u32,
+    out: &mut [u8],
+) -> Result<usize, Refusal>
+    ensures { Emits (write_request room_udp (length out.old) udp_form (request_of op path.now index.0 value)) out.old (number_told result) (length_told result) out.new }
 {
     let mut payload = [0u8; 24];
-    let put = data_for(ROOM_UDP, out.len(), op, path, index, value, &mut payload);
-    if put.number != DONE {
-        return put;
-    }
-    datagram::write_datagram(&payload[..put.len], out)
+    let len = data_for(ROOM_UDP, out.len(), op, path, index, value, &mut payload)?;
+    datagram::write_datagram(&payload[..len], out)
 }

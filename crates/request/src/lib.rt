@@ -3,16 +3,19 @@
 
 pub mod read;
 
-use protocol::PropertyIndex;
+ghost use Rattle.protocol.specs.KeptPath.{path_in};
+ghost use Rattle.protocol.specs.Refusal.{op_number};
+ghost use Rattle.protocol.specs.Request.{request_of, Allowed};
 
-// What reading gives: a number of document 01 and, with 0, the request: its op, a path of len node numbers, its index and its
-// value. The bytes of the path past len are 0. With any other number every field is 0.
+use protocol::path::Path;
+use protocol::{Op, PropertyIndex};
+
+// A request that the table allows: its op, its path, its index and its value. The bytes of the path past its numbers are 0.
 #[derive(Clone, Copy)]
-pub struct Asked {
-    pub number: u8,
-    pub op: u8,
-    pub path: [u8; 16],
-    pub len: usize,
+pub struct Request {
+    pub op: Op,
+    pub path: Path,
     pub index: PropertyIndex,
     pub value: u32,
+    ghost allowed: { Allowed (request_of (op_number op) (path_in path) index.0 value) },
 }

@@ -1,6 +1,6 @@
--- The table of requests: what a path is.
+-- The table of requests: its operations, and what a path is.
 -- Assumes nothing.
-use Prim.Native.Nat.{ℕ, suc, ◌<◌}
+use Prim.Native.Nat.{ℕ, suc, ◌<◌, ◌≤◌}
 use native.Mathlib.Omega.{arith}
 use mathlib.Core.Path.{◌≡◌, refl, sym, ap, ap₂, ◌∙◌}
 use mathlib.Core.Bool.{Bool, true, false, true≢false, not, ◌&&◌, ◌||◌, cond}
@@ -10,9 +10,21 @@ use lib.ListN.{length}
 use lib.Dec.{eqb, ltb, leb}
 use Rattle.std.specs.List.{list_any}
 use Rattle.std.proofs.Common.{Less, Equal, Greater, nat_cmp, is_le}
-use Rattle.protocol.specs.Numbers.{max_depth, byte_end}
+use Rattle.protocol.specs.declared.Op.{Op}
+use Rattle.protocol.specs.declared.Op.TheVariants.{Detect, Node, Record, Read, Write, WriteExtended}
+use Rattle.protocol.specs.Numbers.{op_write_extended, max_depth, byte_end}
+use Rattle.protocol.specs.Refusal.{op_number}
 use Rattle.protocol.specs.Bytes.{Bytes, every}
 use Rattle.protocol.specs.Request.{nonzero, is_path}
+
+-- The table has every operation.
+pub known_op : (op : Op) → op_number op ≤ op_write_extended
+known_op Detect = omega arith
+known_op Node = omega arith
+known_op Record = omega arith
+known_op Read = omega arith
+known_op Write = omega arith
+known_op WriteExtended = omega arith
 
 -- Bytes are nonzero, all of them, where none of them is 0.
 nonzero_by : (b : ℕ) → b < byte_end → nonzero b ≡ not (eqb b 0)

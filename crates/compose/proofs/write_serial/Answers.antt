@@ -1,34 +1,40 @@
 -- `compose::write_serial` meets its contract. Assumes nothing.
 use Prim.Native.Nat.{◌≤◌}
 use native.Mathlib.Omega.{arith}
+use mathlib.Core.Path.{refl}
 use lib.ListN.{length}
+use Rattle.std.proofs.lemmas.Result.{err_from_is_err_and}
 use Rattle.protocol.specs.Numbers.{room_serial}
 use Rattle.protocol.specs.Request.{request_of, data_of, serial_form}
 use Rattle.protocol.proofs.ListLaws.{part_size}
+use Rattle.protocol.proofs.RefusalLaws.{refusal_some}
 use Rattle.compose.proofs.WriteLaws.{refused_alike, put_for, put_for_within, put_front, emits_allowed, emits_serial}
 use Rattle.compose.proofs.write_serial.Goals as goal
-use Rattle.compose.proofs.write_serial.Goals.{Else-put-ne-DONE}
+use Rattle.compose.proofs.write_serial.Goals.{In_ok-len}
 
-within : (c : Else-put-ne-DONE) → c.data_for-put.result.len ≤ length c.data_for-put.new.payload
+within : (c : In_ok-len) → c.in_ok-len.len ≤ length c.data_for.new.payload
 within c =
     put_for_within (request_of c.args.op c.args.path.now c.args.index.0 c.args.value)
-    (put_for room_serial (length c.args.out.now) (request_of c.args.op c.args.path.now c.args.index.0 c.args.value) c.data_for-put.ensures c.if-put-ne-DONE.false) (omega arith)
+    (put_for room_serial (length c.args.out.now) (request_of c.args.op c.args.path.now c.args.index.0 c.args.value) c.in_ok-len.ensures refl) (omega arith)
 
-pub returns-then-put-ne-DONE : goal.returns-then-put-ne-DONE
-returns-then-put-ne-DONE c =
-    refused_alike room_serial (length c.args.out.now) (request_of c.args.op c.args.path.now c.args.index.0 c.args.value) c.data_for-put.ensures (serial_form c.args.address)
-    c.args.out.now c.if-put-ne-DONE.true
+pub returns-in_err-len : goal.returns-in_err-len
+returns-in_err-len c =
+    let p = err_from_is_err_and c.from_residual.result c.from_residual.ensures.1 in
+    rw (p.1, p.2)
+    (refused_alike room_serial (length c.args.out.now) (request_of c.args.op c.args.path.now c.args.index.0 c.args.value) c.in_err-len.ensures (serial_form c.args.address)
+    c.args.out.now (refusal_some _))
 
 pub slice_bounds-payload-end : goal.slice_bounds-payload-end
-slice_bounds-payload-end c = within (goal.at.slice_bounds-payload-end c).Else-put-ne-DONE
+slice_bounds-payload-end c = within (goal.at.slice_bounds-payload-end c).In_ok-len
 
 pub slice_bounds-write_frame-end : goal.slice_bounds-write_frame-end
 slice_bounds-write_frame-end c =
-    part_size c.data_for-put.result.len c.data_for-put.new.payload (within (goal.at.slice_bounds-write_frame-end c).Else-put-ne-DONE)
+    part_size c.in_ok-len.len c.data_for.new.payload (within (goal.at.slice_bounds-write_frame-end c).In_ok-len)
 
 pub returns : goal.returns
 returns c =
     let out = c.args.out.now in
-    let p = put_for room_serial (length out) (request_of c.args.op c.args.path.now c.args.index.0 c.args.value) c.data_for-put.ensures c.if-put-ne-DONE.false in
-    emits_allowed room_serial (length out) (serial_form c.args.address) (request_of c.args.op c.args.path.now c.args.index.0 c.args.value) out p.roomy p.allowed
-    (emits_serial (request_of c.args.op c.args.path.now c.args.index.0 c.args.value) p.allowed (put_front {ys = data_of (request_of c.args.op c.args.path.now c.args.index.0 c.args.value)} p.put) c.args.address p.roomy c.write_frame.ensures)
+    let r = request_of c.args.op c.args.path.now c.args.index.0 c.args.value in
+    let p = put_for room_serial (length out) r c.in_ok-len.ensures refl in
+    emits_allowed room_serial (length out) (serial_form c.args.address) r out p.roomy p.allowed
+    (emits_serial r p.allowed (put_front {ys = data_of r} p.put) c.args.address p.roomy c.write_frame.ensures)

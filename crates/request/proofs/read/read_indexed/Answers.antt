@@ -1,14 +1,12 @@
 -- `request::read::read_indexed` meets its contract. Assumes nothing.
-use native.Mathlib.Omega.{arith}
-use Rattle.protocol.proofs.ListLaws.{part_size}
-use Rattle.request.proofs.ReadLaws.{indexed_none, indexed_some}
+use Rattle.protocol.specs.Request.{read_indexed}
+use Rattle.protocol.specs.Refusal.{op_number}
+use Rattle.request.proofs.ReadLaws.{indexed_none}
 use Rattle.request.proofs.read.read_indexed.Goals as goal
 
-pub returns-then-n-lt1 : goal.returns-then-n-lt1
-returns-then-n-lt1 c = indexed_none c.args.op c.args.value c.args.bs.now c.if-n-lt1.true c.judge.ensures
-
-pub slice_bounds-judge-end : goal.slice_bounds-judge-end
-slice_bounds-judge-end c = part_size _ c.args.bs.now (omega arith)
+pub returns-in_default : goal.returns-in_default
+returns-in_default c = indexed_none (op_number c.args.op) c.args.value c.args.bs.now c.requires c.in_default.len_below
 
 pub returns : goal.returns
-returns c = indexed_some c.args.op c.args.value c.args.bs.now c.judge-2.ensures
+unfolding read_indexed
+returns c = c.judge.ensures

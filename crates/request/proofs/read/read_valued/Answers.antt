@@ -2,14 +2,23 @@
 use native.Mathlib.Omega.{arith}
 use Rattle.protocol.proofs.ListLaws.{part_size}
 use Rattle.protocol.proofs.RequestLaws.{zero_within}
+use Rattle.protocol.specs.Refusal.{op_number}
 use Rattle.request.proofs.ReadLaws.{valued_other, valued_whole}
 use Rattle.request.proofs.read.read_valued.Goals as goal
 
-pub overflow_add-end : goal.overflow_add-end
-overflow_add-end c = omega (arith, c.before_zero-end.ensures, zero_within c.args.bs.now, c.well_formed.0.1)
+pub slice_bounds-t-11-count : goal.slice_bounds-t-11-count
+slice_bounds-t-11-count c = omega (arith, c.before_zero-end.ensures, zero_within c.args.bs.now)
 
-pub returns-then-bs-end : goal.returns-then-bs-end
-returns-then-bs-end c = valued_other c.args.op c.args.bs.now c.before_zero-end.ensures c.if-bs-end.true c.refusal.ensures
+pub slice_bounds-t-12-start : goal.slice_bounds-t-12-start
+slice_bounds-t-12-start c = omega (arith, c.before_zero-end.ensures, zero_within c.args.bs.now)
+
+pub returns-in_default : goal.returns-in_default
+returns-in_default c =
+    valued_other (op_number c.args.op) c.args.bs.now c.before_zero-end.ensures (λ h. omega (arith, h, c.in_default.len_below))
+
+pub returns-in_default-2 : goal.returns-in_default-2
+returns-in_default-2 c =
+    valued_other (op_number c.args.op) c.args.bs.now c.before_zero-end.ensures (λ h. omega (arith, h, c.in_default.len_at_least))
 
 pub slice_bounds-read_indexed-end : goal.slice_bounds-read_indexed-end
 slice_bounds-read_indexed-end c =
@@ -18,5 +27,5 @@ slice_bounds-read_indexed-end c =
 
 pub returns : goal.returns
 returns c =
-    valued_whole c.args.op c.args.bs.now c.before_zero-end.ensures c.if-bs-end.false
-    c.word_of-value.ensures c.read_indexed.ensures
+    valued_whole (op_number c.args.op) c.args.bs.now c.before_zero-end.ensures
+    (omega (arith, c.in-len5.len_at_least, c.in-len5.len_below)) c.word_of-value.ensures c.read_indexed.ensures
