@@ -6,10 +6,10 @@ use native.Mathlib.Nat.{not-suc-le-zero, add-zero}
 use native.Mathlib.Numerals.{add-one}
 use mathlib.Core.Path.{◌≡◌, refl, sym, ap, ap₂, subst, ◌∙◌}
 use mathlib.Core.Bool.{Bool, true, false, cond}
-use mathlib.Core.List.{List, [], ◌++◌, append-nil}
+use mathlib.Core.List.{List, [], ◌∷◌, ◌++◌, append-nil}
 use borrow.Author.Tests.{ltb-true, ltb-false, eqb-true, eqb-false, lt-ltb, le-ltb}
-use lib.ListN.{length, get_or, take, drop, set, replicate, length-set, length-drop, take-append-drop, drop_of_length-le, get_or-eq_default}
-use lib.Seq.{get_or-drop, drop-drop, drop-length, length-take-le, get_or-set_same, get_or-set_other}
+use lib.ListN.{length, get_or, take, drop, replicate, length-append, length-drop, take-append-drop, drop_of_length-le, get_or-eq_default}
+use lib.Seq.{get_or-drop, drop-drop, drop-length, length-take-le}
 use lib.Dec.{eqb, ltb}
 use Rattle.protocol.specs.Numbers.{enumeration}
 use Rattle.protocol.specs.Bytes.{Bytes, text, texts}
@@ -93,52 +93,37 @@ options_few kind max = few (eqb kind enumeration)
     few true = omega arith
     few false = omega arith
 
--- A record of which some bytes have been read, with zeros behind them.
-pub record Cutting (bs : List ℕ) (at : ℕ) (cut : List ℕ) (i : ℕ) : Type 0 where
-  pub within : i ≤ property_size
-  pub size : length cut ≡ property_size
-  pub read : (k : ℕ) → k < i → get_or cut k 0 ≡ get_or bs (at + k) 0
-  pub rest : (k : ℕ) → i ≤ k → get_or cut k 0 ≡ 0
-
+-- The bytes of a record that are left, with zeros behind them, are the record.
 zero_at_lem : (n k : ℕ) → ◌≡◌ {A = ℕ} (get_or (replicate n 0) k 0) 0
 zero_at_lem zero k = refl
 zero_at_lem (suc n) zero = refl
 zero_at_lem (suc n) (suc k) = zero_at_lem n k
 
-pub cut-begins : (bs : List ℕ) (at : ℕ) → Cutting bs at (replicate property_size 0) 0
-cut-begins bs at =
-    record { within = omega arith; size = refl; read = λ k p. absurd (not-suc-le-zero p); rest = λ k p. zero_at_lem property_size k }
+padded : (xs ys : List ℕ) → ((k : ℕ) → get_or ys k 0 ≡ 0) → (k : ℕ) → get_or (xs ++ ys) k 0 ≡ get_or xs k 0
+padded [] ys none k = none k
+padded (x ∷ xs) ys none zero = refl
+padded (x ∷ xs) ys none (suc k) = padded xs ys none k
 
-module _ {bs : List ℕ} {at : ℕ} {cut : List ℕ} {i : ℕ} (w : Cutting bs at cut i) where
-  module _ {b : ℕ} (h : i < property_size) (e : b ≡ get_or bs (at + i) 0) where
-    cut_byte : (k : ℕ) (t : Bool) → eqb k i ≡ t → k < i + 1 → get_or (set cut i b) k 0 ≡ get_or bs (at + k) 0
-    cut_byte k true f p =
-        let here : k ≡ i = eqb-true k i f in
-        ap (λ n. get_or (set cut i b) n 0) here
-        ∙ get_or-set_same cut i b 0 (omega (arith, h, w.size))
-        ∙ e
-        ∙ ap (λ n. get_or bs (at + n) 0) (sym here)
-    cut_byte k false f p =
-        let other : (k ≡ i → ⊥) = eqb-false k i f in
-        get_or-set_other cut i k b 0 other ∙ w.read k (omega (arith, p, other))
+pub cut_is : (bs : List ℕ) (at : ℕ) → length bs < at + property_size
+    → drop at bs ++ drop (length (drop at bs)) (replicate property_size 0) ≡ entries at property_size bs
+cut_is bs at h =
+    let rest : List ℕ = drop at bs in
+    let zeros : List ℕ = replicate property_size 0 in
+    entries_alike property_size at bs (rest ++ drop (length rest) zeros)
+    (simp (length-append, length-drop) (omega (arith, length-drop at bs)))
+    (λ k l.
+    padded rest (drop (length rest) zeros) (λ i. get_or-drop (length rest) zeros i 0 ∙ zero_at_lem property_size (length rest + i)) k
+    ∙ get_or-drop at bs k 0)
 
-    pub cut_more : Cutting bs at (set cut i b) (i + 1)
-    cut_more =
-        record {
-          within = omega arith;
-          size = length-set cut i b ∙ w.size;
-          read = λ k p. cut_byte k (eqb k i) refl p;
-          rest = λ k p. get_or-set_other cut i k b 0 (λ q. omega (arith, p, q)) ∙ w.rest k (omega (arith, p));
-        }
+pub cut_rest : (bs : List ℕ) (at : ℕ) {rest put : List ℕ} → length bs < at + property_size → rest ≡ take (length bs - at) (drop at bs) → put ≡ rest
+    → put ++ drop (length rest) (replicate property_size 0) ≡ entries at property_size bs
+cut_rest bs at h e f =
+    let is = e ∙ part_lent at bs in
+    ap₂ (λ x y. x ++ drop (length y) (replicate property_size 0)) (f ∙ is) is ∙ cut_is bs at h
 
-  pub cut-ends : length bs ≤ at + i → cut ≡ entries at property_size bs
-  cut-ends h = entries_alike property_size at bs cut w.size (λ k p. byte k (ltb k i) refl)
-    where
-      byte : (k : ℕ) (t : Bool) → ltb k i ≡ t → get_or cut k 0 ≡ get_or bs (at + k) 0
-      byte k true f = w.read k (ltb-true k i f)
-      byte k false f =
-          let behind : i ≤ k = ltb-false k i f in
-          w.rest k behind ∙ sym (get_or-eq_default bs 0 {n = at + k} (omega (arith, behind, h)))
+pub cut_behind : (bs : List ℕ) (at : ℕ) → length bs ≤ at → replicate property_size 0 ≡ entries at property_size bs
+cut_behind bs at h =
+    ap (λ l. l ++ drop (length l) (replicate property_size 0)) (sym (drop_of_length-le bs {i = at} h)) ∙ cut_is bs at (omega (arith, h))
 
 -- The numbers of a record are those of any bytes that begin alike.
 fields_alike : (x y bs : List ℕ) {r : Fields} → ((k : ℕ) → k < property_size → get_or x k 0 ≡ get_or y k 0)

@@ -4,11 +4,13 @@ use Prim.Native.Nat.{ℕ, zero, suc, ◌+◌, ◌-◌, ◌<◌, ◌≤◌, min}
 use native.Mathlib.Omega.{arith}
 use native.Mathlib.Nat.{not-suc-le-zero, zero-min, suc-min-suc, add-zero}
 use mathlib.Core.Path.{◌≡◌, refl, sym, ap, ap₂, ◌∙◌}
-use mathlib.Core.Bool.{false}
+use mathlib.Core.Bool.{Bool, true, false}
+use mir.Val.{bool_byte}
+use borrow.Author.Tests.{ltb-true, ltb-false}
 use mathlib.Core.List.{List, [], ◌∷◌, append-nil}
 use lib.ListN.{length, get_or, take, drop, set, length-drop}
 use lib.Seq.{drop-drop, drop-nil, get_or-drop}
-use lib.Dec.{eqb, eqb-suc-zero}
+use lib.Dec.{eqb, ltb, eqb-suc-zero}
 use Rattle.protocol.specs.Bytes.{text, texts}
 use Rattle.protocol.specs.Request.{before_zero}
 use Rattle.protocol.specs.Buffer.{put_at, fitting, Put}
@@ -62,6 +64,18 @@ texts_byte (suc n) (zero ∷ xs) h =
 texts_byte (suc n) (suc x ∷ xs) h =
     let m : suc n ≡ suc n - (1 - suc x) = omega arith in
     character_first n (suc x) xs (eqb-suc-zero x) ∙ ap (λ m. suc x ∷ texts (texts_from m xs)) m
+
+-- What a byte takes from the texts that are left, and the place behind it.
+pub left_behind : (b left : ℕ) {ends : ℕ} → ends ≡ bool_byte (eqb b 0) → left - ends ≡ left - (1 - b)
+left_behind zero left e = ap (λ n. left - n) e
+left_behind (suc b) left e = ap (λ n. left - n) (e ∙ ap bool_byte (eqb-suc-zero b)) ∙ omega arith
+
+pub place_behind : (i len : ℕ) {more : ℕ} → more ≡ bool_byte (ltb i len) → i + more ≡ i + min 1 (len - i)
+place_behind i len {more} e = go (ltb i len) refl
+  where
+    go : (t : Bool) → ltb i len ≡ t → i + more ≡ i + min 1 (len - i)
+    go true f = omega (arith, ltb-true i len f, e ∙ ap bool_byte f)
+    go false f = omega (arith, ltb-false i len f, e ∙ ap bool_byte f)
 
 -- Texts put byte by byte: of all their bytes some are put, and left are those of the texts that have not ended.
 pub record Copying (bs all old : List ℕ) (at : ℕ) (out : List ℕ) (left next i : ℕ) : Type 0 where

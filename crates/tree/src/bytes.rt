@@ -5,10 +5,7 @@ ghost use Rattle.tree.specs.Seen.{half_at, word_at};
 pub fn byte_at(bs: &[u8], at: usize) -> u8
     ensures { result ≡ get_or bs.now at 0 }
 {
-    if at < bs.len() {
-        return bs[at];
-    }
-    0
+    bs.get(at).copied().unwrap_or(0)
 }
 
 // A number of 16 bits at a place.

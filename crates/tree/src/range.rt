@@ -11,35 +11,25 @@ use protocol::STANDARD;
 fn takes_any(f: Fields) -> bool
     ensures { result ≡ (eqb f.min 0 && eqb f.max 0) }
 {
-    if f.min != 0 {
-        return false;
-    }
-    f.max == 0
+    f.min == 0 && f.max == 0
 }
 
 // Whether a value lies in a property's range.
+#[tactic(auto, unfolding(protocol::specs::Answer::in_range))]
 pub fn in_range(f: Fields, value: u32) -> bool
     ensures { result ≡ in_range (numbers_of f) value }
 {
     if f.kind != STANDARD {
         return value <= f.max;
     }
-    if takes_any(f) {
-        return true;
-    }
     let signed = f.is_signed();
-    if !record::at_most(signed, f.min, value) {
-        return false;
-    }
-    record::at_most(signed, value, f.max)
+    takes_any(f) || (record::at_most(signed, f.min, value) && record::at_most(signed, value, f.max))
 }
 
 // Whether a property's value is signed there.
+#[tactic(auto, unfolding(protocol::specs::Answer::takes_sign))]
 pub fn takes_sign(f: Fields) -> bool
     ensures { result ≡ takes_sign (numbers_of f) }
 {
-    if f.kind == STANDARD {
-        return f.is_signed();
-    }
-    false
+    f.kind == STANDARD && f.is_signed()
 }

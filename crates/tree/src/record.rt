@@ -57,16 +57,14 @@ impl Fields {
 }
 
 // A word as it is compared: of a signed one the sign bit is turned over.
+#[tactic(auto, unfolding(protocol::specs::Bytes::ordered))]
 pub(crate) fn ordered_word(signed: bool, n: u32) -> u32
     ensures { result ≡ ordered signed n }
 {
-    if !signed {
-        return n;
+    if signed {
+        return n.wrapping_add(1 << 31);
     }
-    if n < 2147483648 {
-        return n + 2147483648;
-    }
-    n - 2147483648
+    n
 }
 
 // Whether one word is at most another, signed or not.
@@ -98,6 +96,7 @@ pub fn properties_start(tree: &[u8]) -> usize
 }
 
 // How many texts are the unit or options.
+#[tactic(auto, unfolding(crate::specs::Seen::option_count))]
 pub fn option_count(kind: u8, max: u32) -> usize
     ensures { result ≡ option_count kind max }
 {
@@ -128,10 +127,8 @@ fn cut_record(tree: &[u8], at: usize) -> [u8; 16]
     ensures { result ≡ entries at 16 tree.now }
 {
     let mut cut = [0u8; 16];
-    let mut i = 0;
-    while at + i < tree.len() {
-        cut[i] = tree[at + i];
-        i += 1;
+    if let Some(rest) = tree.get(at..) {
+        cut[..rest.len()].copy_from_slice(rest);
     }
     cut
 }

@@ -11,38 +11,15 @@ pub(crate) fn put_texts(tree: &[u8], from: usize, count: usize, out: &mut [u8], 
     ensures { Put at (fitting at (texts (texts_from count (drop from tree.now))) out.old) out.old result out.new }
 {
     let mut left = count;
-    let mut next = at;
     let mut i = from;
-    while next < out.len() {
+    for next in at..out.len() {
         if left == 0 {
             return next;
         }
         let b = bytes::byte_at(tree, i);
         out[next] = b;
-        next += 1;
-        i = after(tree.len(), i);
-        left = left_after(left, b);
+        i += usize::from(i < tree.len());
+        left -= usize::from(b == 0);
     }
-    next
-}
-
-// The place behind one, which stays where the bytes have ended.
-fn after(len: usize, i: usize) -> usize
-    ensures { result ≡ i + min 1 (len - i) }
-{
-    if i < len {
-        return i + 1;
-    }
-    i
-}
-
-// How many texts are still to end behind a byte. A zero ends one.
-fn left_after(left: usize, b: u8) -> usize
-    requires { 1 ≤ left }
-    ensures { result ≡ left - (1 - b) }
-{
-    if b == 0 {
-        return left - 1;
-    }
-    left
+    at.max(out.len())
 }

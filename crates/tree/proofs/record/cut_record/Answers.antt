@@ -1,14 +1,10 @@
 -- `tree::record::cut_record` meets its contract. Assumes nothing.
 use native.Mathlib.Omega.{arith}
-use mathlib.Core.Path.{refl}
-use Rattle.tree.proofs.FieldLaws.{cut-begins, cut_more, cut-ends}
+use Rattle.tree.proofs.FieldLaws.{cut_rest, cut_behind}
 use Rattle.tree.proofs.record.cut_record.Goals as goal
 
-pub loop-i-init : goal.loop-i-init
-loop-i-init c = cut-begins c.args.tree.now c.args.at
+pub returns-in-Some : goal.returns-in-Some
+returns-in-Some c = cut_rest c.args.tree.now c.args.at c.requires.1 c.in-Some.ensures.lookup.0.2 c.copy_from_slice.ensures.after
 
-pub loop-i-preserved : goal.loop-i-preserved
-loop-i-preserved c = cut_more c.loop-i.invariant (omega arith) refl
-
-pub returns : goal.returns
-returns c = cut-ends c.loop-i.invariant c.loop-i-test.false
+pub returns-in_default : goal.returns-in_default
+returns-in_default c = cut_behind c.args.tree.now c.args.at (omega (arith, c.in_default.ensures.lookup.0))

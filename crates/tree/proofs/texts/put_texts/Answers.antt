@@ -1,6 +1,9 @@
 -- `tree::texts::put_texts` meets its contract. Assumes nothing.
 use native.Mathlib.Omega.{arith}
-use Rattle.tree.proofs.TextLaws.{copy_begins, copy_more, copy_full, copy_ends}
+use mathlib.Core.Path.{ap, ◌∙◌}
+use Prim.Native.Nat.{◌+◌, ◌-◌}
+use lib.ListN.{length}
+use Rattle.tree.proofs.TextLaws.{copy_begins, copy_more, copy_full, copy_ends, left_behind, place_behind}
 use Rattle.tree.proofs.texts.put_texts.Goals as goal
 
 pub loop-next-init : goal.loop-next-init
@@ -13,8 +16,8 @@ returns-then-left-eq0 c = copy_ends c.loop-next.invariant c.if-left-eq0.true
 
 pub loop-next-preserved : goal.loop-next-preserved
 loop-next-preserved c =
-    copy_more c.loop-next.invariant c.loop-next-test.true (omega arith)
-    c.byte_at-b.ensures c.left_after-left.ensures c.after-i.ensures
+    copy_more c.loop-next.invariant (omega arith) (omega arith)
+    c.byte_at-b.ensures
+    (left_behind c.byte_at-b.result c.loop-next.left c.from-left.ensures)
+    (place_behind c.loop-next.i (length c.args.tree.now) c.from-i.ensures)
 
-pub returns : goal.returns
-returns c = copy_full c.loop-next.invariant c.loop-next-test.false

@@ -1,5 +1,4 @@
-use Prim.Native.Nat.{◌-◌}
-use lib.ListN.{length, drop}
+use lib.ListN.{drop}
 use Rattle.protocol.specs.Bytes.{texts}
 use Rattle.tree.specs.Seen.{texts_from}
 use Rattle.tree.proofs.TextLaws.{Copying}
@@ -7,6 +6,3 @@ use Rattle.tree.proofs.texts.put_texts.Given as goal
 
 abbrev pub invariant-loop-next : goal.invariant-loop-next
 invariant-loop-next l = Copying l.tree (texts (texts_from l.count (drop l.from l.tree))) l.initial.out l.at l.out l.left l.next l.i
-
-abbrev pub decreases-loop-next : goal.decreases-loop-next
-decreases-loop-next l = length l.initial.out - l.next
