@@ -2,17 +2,17 @@
 -- Assumes nothing.
 use Prim.Native.Nat.{ℕ, zero, suc, ◌+◌, ◌-◌, ◌*◌, ◌%◌, ◌<◌, ◌≤◌}
 use native.Mathlib.Omega.{arith}
-use native.Mathlib.Nat.{not-suc-le-zero, add-zero}
+use native.Mathlib.Nat.{add-zero}
 use native.Mathlib.Numerals.{add-one}
 use mathlib.Core.Path.{◌≡◌, refl, sym, ap, ap₂, subst, ◌∙◌}
 use mathlib.Core.Bool.{Bool, true, false, cond}
 use mathlib.Core.List.{List, [], ◌∷◌, ◌++◌, append-nil}
-use borrow.Author.Tests.{ltb-true, ltb-false, eqb-true, eqb-false, lt-ltb, le-ltb}
+use borrow.Author.Tests.{ltb-true, ltb-false, lt-ltb, le-ltb}
 use lib.ListN.{length, get_or, take, drop, replicate, length-append, length-drop, take-append-drop, drop_of_length-le, get_or-eq_default}
 use lib.Seq.{get_or-drop, drop-drop, drop-length, length-take-le}
 use lib.Dec.{eqb, ltb}
 use Rattle.protocol.specs.Numbers.{enumeration}
-use Rattle.protocol.specs.Bytes.{Bytes, text, texts}
+use Rattle.protocol.specs.Bytes.{text, texts}
 use Rattle.protocol.specs.Buffer.{Put}
 use Rattle.protocol.specs.Request.{before_zero}
 use Rattle.protocol.specs.Text.{begins}
@@ -25,7 +25,9 @@ use Rattle.std.specs.declared.ops.Range.{Range}
 use Rattle.tree.specs.declared.record.Fields.{Fields}
 use Rattle.tree.specs.Form.{node_size, property_size, properties_start}
 use Rattle.tree.specs.Seen.{half_at, word_at, first_text, after_text, texts_from, node_seen, property_seen, option_count, node_count, property_count, seen}
-use Rattle.tree.specs.Steps.{entries}
+use Rattle.tree.specs.Steps.{PlaceIs, entries, start_of, text_of}
+use Rattle.std.proofs.Common as std
+use Rattle.std.proofs.Common.{Some, None, unwrap_or}
 use Rattle.tree.specs.Lookup.{FieldsAre, text_start, name_start, label_start, PartIs}
 use Rattle.tree.proofs.RecordLaws.{records_length, records_at}
 use Rattle.tree.proofs.NumberLaws.{entries_at, entries_alike, half_behind, word_behind}
@@ -37,11 +39,6 @@ node_place place = 2 + place * node_size
 
 abbrev property_place : List ℕ → ℕ → ℕ
 property_place bs place = properties_start (node_count bs) + place * property_size
-
--- Both counts are bytes, so a record lies near the front.
-pub property_near : (bs : List ℕ) (place : ℕ) {start : ℕ} → Bytes bs → place < property_count bs → start ≡ properties_start (node_count bs)
-    → start + place * property_size < 65536
-property_near bs place all h e = omega (arith, all 0, all 1, h, e)
 
 -- What stands where there is no such place.
 abbrev empty_tree : Tree
@@ -150,18 +147,17 @@ fields_whole bs at =
     fields_alike (take (length bs - at) (drop at bs)) (drop at bs) bs (λ k h. ap (λ l. get_or l k 0) (part_lent at bs))
 
 module _ (bs : List ℕ) (place : ℕ) where
-  pub fields_at : {start : ℕ} {r : Fields} → place < property_count bs → start ≡ properties_start (node_count bs)
-      → FieldsAre (property_seen bs (drop (start + place * property_size) bs)) r → FieldsAre (property_in (seen bs) place) r
+  pub fields_at : {at : ℕ} {r : Fields} → place < property_count bs → at ≡ property_place bs place
+      → FieldsAre (property_seen bs (drop at bs)) r → FieldsAre (property_in (seen bs) place) r
   fields_at {r = r} h e f =
-      subst (λ p. FieldsAre p r) (sym (property_at_lem bs place h))
-      (subst (λ n. FieldsAre (property_seen bs (drop (n + place * property_size) bs)) r) e f)
+      subst (λ p. FieldsAre p r) (sym (property_at_lem bs place h)) (subst (λ n. FieldsAre (property_seen bs (drop n bs)) r) e f)
 
-  pub fields_none : property_count bs ≤ place
-      → FieldsAre (property_in (seen bs) place) (record { node = 0; kind = 0; min = 0; max = 0; attribute = 0; format = 0 })
-  fields_none h =
-      subst (λ p. FieldsAre p (record { node = 0; kind = 0; min = 0; max = 0; attribute = 0; format = 0 }))
-      (sym (property_none bs place h))
-      (record { node = refl; kind = refl; min = refl; max = refl; attribute = refl; format = refl })
+  pub fields_none : {r : Fields} → property_count bs ≤ place
+      → (r.node ≡ 0) × ((r.kind ≡ 0) × ((r.min ≡ 0) × ((r.max ≡ 0) × ((r.attribute ≡ 0) × (r.format ≡ 0)))))
+      → FieldsAre (property_in (seen bs) place) r
+  fields_none {r} h e =
+      subst (λ p. FieldsAre p r) (sym (property_none bs place h))
+      (record { node = e.0; kind = e.1.0; min = e.1.1.0; max = e.1.1.1.0; attribute = e.1.1.1.1.0; format = e.1.1.1.1.1 })
 
 -- Texts of bytes: one, one and more behind it, and one where the bytes have ended.
 text_first : (bs : List ℕ) → texts (texts_from 1 bs) ≡ text (first_text bs)
@@ -184,33 +180,29 @@ name_place bs place =
 
 -- A node's name, and a property's texts.
 module _ (bs : List ℕ) (place : ℕ) where
-  pub name_at : {from : ℕ} → place < node_count bs → from ≡ half_at (3 + place * node_size) bs
-      → texts (texts_from 1 (drop from bs)) ≡ text (node_in (seen bs) place).name
+  pub name_texts : (o : std.Option ℕ) → PlaceIs (node_count bs) place (half_at (3 + place * node_size) bs) o
+      → texts (texts_from 1 (drop (unwrap_or o (length bs)) bs)) ≡ text (node_in (seen bs) place).name
   unfolding node_seen
-  name_at {from} h e =
+  name_texts None h = text-ended bs ∙ sym (ap (λ x. text x.name) (node_none bs place h))
+  name_texts (Some from) h =
       text_first (drop from bs)
-      ∙ ap (λ i. text (first_text (drop i bs))) (e ∙ sym (name_place bs place))
-      ∙ sym (ap (λ x. text x.name) (node_at_lem bs place h))
+      ∙ ap (λ i. text (first_text (drop i bs))) (h.1 ∙ sym (name_place bs place))
+      ∙ sym (ap (λ x. text x.name) (node_at_lem bs place h.0))
 
-  pub name_none : node_count bs ≤ place → texts (texts_from 1 (drop (length bs) bs)) ≡ text (node_in (seen bs) place).name
-  name_none h = text-ended bs ∙ sym (ap (λ x. text x.name) (node_none bs place h))
-
-  pub record-texts-at : {start count from : ℕ} → place < property_count bs → start ≡ properties_start (node_count bs)
-      → count
-      ≡ option_count (get_or bs (start + place * property_size + 1) 0) (word_at (start + place * property_size + 6) bs)
-      → from ≡ half_at (start + place * property_size + 14) bs
+  pub record-texts-at : {at count from : ℕ} → (place < property_count bs) × (at ≡ property_place bs place)
+      → count ≡ option_count (get_or bs (at + 1) 0) (word_at (at + 6) bs)
+      → from ≡ half_at (at + 14) bs
       → texts (texts_from (count + 1) (drop from bs)) ≡ record_texts (property_in (seen bs) place)
   unfolding property_seen
-  record-texts-at {start} {count} {from} h e p q =
-      let at : ℕ = start + place * property_size in
+  record-texts-at {at} {count} {from} h p q =
       let r : List ℕ = drop at bs in
       let options : count ≡ option_count (get_or r 1 0) (word_at 6 r) =
       p ∙ sym (ap₂ option_count (get_or-drop at bs 1 0) (word_behind at bs 6)) in
       let label : from ≡ half_at 14 r = q ∙ sym (half_behind at bs 14) in
       ap₂ (λ n i. texts (texts_from (n + 1) (drop i bs))) options label
       ∙ texts_rest (option_count (get_or r 1 0) (word_at 6 r)) (drop (half_at 14 r) bs)
-      ∙ ap (λ n. record_texts (property_seen bs (drop (n + place * property_size) bs))) e
-      ∙ sym (ap record_texts (property_at_lem bs place h))
+      ∙ ap (λ n. record_texts (property_seen bs (drop n bs))) h.1
+      ∙ sym (ap record_texts (property_at_lem bs place h.0))
 
   pub record-texts-none : property_count bs ≤ place
       → texts (texts_from 1 (drop (length bs) bs)) ≡ record_texts (property_in (seen bs) place)
@@ -270,58 +262,41 @@ part_at bs from {n} h e =
       is = ap (λ m. take m (drop from bs)) back;
     })
 
--- A node's name, and a property's label.
+-- A node's name, and a property's label, each where it has a place and where it has none.
 module _ (bs : List ℕ) (place : ℕ) where
-  pub name_past : node_count bs ≤ place → PartIs (name_start bs place) (node_in (seen bs) place).name bs (record { start = 0; end = 0 })
-  unfolding name_start
-  name_past h =
-      part_as bs (sym (rw (le-ltb place (node_count bs) h))) refl (part_empty bs (ap (λ x. x.name) (node_none bs place h)))
+  abbrev label_at : ℕ
+  label_at = half_at (properties_start (node_count bs) + place * property_size + 14) bs
 
-  pub label_past : property_count bs ≤ place
-      → PartIs (label_start bs place) (property_in (seen bs) place).label bs (record { start = 0; end = 0 })
-  unfolding label_start
-  label_past h =
-      part_as bs (sym (rw (le-ltb place (property_count bs) h))) refl (part_empty bs (ap (λ x. x.label) (property_none bs place h)))
-
-module _ (bs : List ℕ) (place : ℕ) {r : Range ℕ} where
-  pub name_part : {from : ℕ} → place < node_count bs → from ≡ half_at (3 + place * node_size) bs
-      → PartIs (text_start bs from) (first_text (drop from bs)) bs r → PartIs (name_start bs place) (node_in (seen bs) place).name bs r
+  pub name_part : (o : std.Option ℕ) {r : Range ℕ} → PlaceIs (node_count bs) place (half_at (3 + place * node_size) bs) o
+      → PartIs (start_of bs o) (text_of bs o) bs r → PartIs (name_start bs place) (node_in (seen bs) place).name bs r
   unfolding node_seen name_start
-  name_part h e p =
-      let start : name_start bs place ≡ text_start bs (half_at (3 + place * node_size) bs) = rw (lt-ltb place (node_count bs) h) in
-      part_as bs (ap (text_start bs) e ∙ sym start)
-      (ap (λ i. first_text (drop i bs)) (e ∙ sym (name_place bs place)) ∙ sym (ap (λ x. x.name) (node_at_lem bs place h)))
+  name_part None h p = part_as bs (sym (rw (le-ltb place (node_count bs) h))) (sym (ap (λ x. x.name) (node_none bs place h))) p
+  name_part (Some from) h p =
+      let start : name_start bs place ≡ text_start bs (half_at (3 + place * node_size) bs) = rw (lt-ltb place (node_count bs) h.0) in
+      part_as bs (ap (text_start bs) h.1 ∙ sym start)
+      (ap (λ i. first_text (drop i bs)) (h.1 ∙ sym (name_place bs place)) ∙ sym (ap (λ x. x.name) (node_at_lem bs place h.0)))
       p
 
-  pub label_part : {start from : ℕ} → place < property_count bs → start ≡ properties_start (node_count bs)
-      → from ≡ half_at (start + place * property_size + 14) bs → PartIs (text_start bs from) (first_text (drop from bs)) bs r
-      → PartIs (label_start bs place) (property_in (seen bs) place).label bs r
-  unfolding property_seen label_start
-  label_part {start} h f e p =
-      let begin : label_start bs place ≡ text_start bs (half_at (properties_start (node_count bs) + place * property_size + 14) bs) =
-      rw (lt-ltb place (property_count bs) h) in
-      part_as bs (ap (text_start bs) (e ∙ ap (λ n. half_at (n + place * property_size + 14) bs) f) ∙ sym begin)
-      (ap (λ i. first_text (drop i bs)) (e ∙ sym (half_behind (start + place * property_size) bs 14))
-      ∙ ap (λ n. (property_seen bs (drop (n + place * property_size) bs)).label) f
-      ∙ sym (ap (λ x. x.label) (property_at_lem bs place h)))
-      p
-
--- Where a label begins, test by test; and that it stands there.
-module _ (bs : List ℕ) (place : ℕ) where
-  pub start_past : property_count bs ≤ place → (0 ≡ label_start bs place) × (0 ≤ length bs)
+  pub label_begins : (o : std.Option ℕ) → PlaceIs (property_count bs) place label_at o → start_of bs o ≡ label_start bs place
   unfolding label_start
-  start_past h = (sym (rw (le-ltb place (property_count bs) h)), omega arith)
+  label_begins None h = sym (rw (le-ltb place (property_count bs) h))
+  label_begins (Some from) h = ap (text_start bs) h.1 ∙ sym (rw (lt-ltb place (property_count bs) h.0))
 
-  module _ {start from : ℕ} (h : place < property_count bs) (f : start ≡ properties_start (node_count bs)) (e : from ≡ half_at (start + place * property_size + 14) bs) where
-    start_is : label_start bs place ≡ text_start bs from
-    unfolding label_start
-    start_is = rw (lt-ltb place (property_count bs) h) (ap (text_start bs) (sym (e ∙ ap (λ n. half_at (n + place * property_size + 14) bs) f)))
+  pub label_part : (o : std.Option ℕ) {r : Range ℕ} → PlaceIs (property_count bs) place label_at o
+      → PartIs (start_of bs o) (text_of bs o) bs r → PartIs (label_start bs place) (property_in (seen bs) place).label bs r
+  unfolding property_seen
+  label_part None h p = part_as bs (label_begins None h) (sym (ap (λ x. x.label) (property_none bs place h))) p
+  label_part (Some from) h p =
+      part_as bs (label_begins (Some from) h)
+      (ap (λ i. first_text (drop i bs)) (h.1 ∙ sym (half_behind (property_place bs place) bs 14))
+      ∙ sym (ap (λ x. x.label) (property_at_lem bs place h.0)))
+      p
 
-    pub start_none : length bs < from → (0 ≡ label_start bs place) × (0 ≤ length bs)
-    start_none l = (sym (start_is ∙ rw (lt-ltb (length bs) from l)), omega arith)
+  pub start_within : (n : ℕ) → n ≤ length bs → text_start bs n ≡ n
+  start_within n h = rw (le-ltb (length bs) n h)
 
-    pub start_at : from ≤ length bs → (from ≡ label_start bs place) × (from ≤ length bs)
-    start_at l = (sym (start_is ∙ rw (le-ltb (length bs) from l)), l)
+  pub start_past : (n : ℕ) → length bs < n → text_start bs n ≡ 0
+  start_past n h = rw (lt-ltb (length bs) n h)
 
   part_front : {s : List ℕ} {r : Range ℕ} → PartIs (label_start bs place) s bs r → begins s (drop (label_start bs place) bs) ≡ true
   part_front {s} {r} p =
@@ -338,8 +313,8 @@ module _ (bs : List ℕ) (place : ℕ) where
 
       go : (a : Bool) → ltb place (property_count bs) ≡ a → (b : Bool) → ltb (length bs) from ≡ b
           → begins (property_in (seen bs) place).label (drop (label_start bs place) bs) ≡ true
-      go false e b f = part_front (label_past bs place (ltb-false place (property_count bs) e))
+      go false e b f = part_front (label_part None (ltb-false place (property_count bs) e) (part_empty bs refl))
       go true e true f =
-          part_front (label_part bs place (ltb-true place (property_count bs) e) refl refl (part_past bs from (ltb-true (length bs) from f)))
+          part_front (label_part (Some from) (ltb-true place (property_count bs) e, refl) (part_past bs from (ltb-true (length bs) from f)))
       go true e false f =
-          part_front (label_part bs place (ltb-true place (property_count bs) e) refl refl (part_at bs from (ltb-false (length bs) from f) refl))
+          part_front (label_part (Some from) (ltb-true place (property_count bs) e, refl) (part_at bs from (ltb-false (length bs) from f) refl))

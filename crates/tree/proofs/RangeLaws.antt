@@ -1,13 +1,8 @@
--- The range rule, turns on a property's numbers alone.
+-- The range rule turns on a property's numbers alone.
 -- Assumes nothing.
 use Prim.Native.Nat.{ℕ}
-use mathlib.Core.Path.{◌≡◌, sym}
-use mathlib.Core.Bool.{Bool, true, false, cond, ◌&&◌}
-use borrow.Author.Tests.{eq-eqb, ne_eqb}
-use lib.Dec.{eqb, leb}
-use Rattle.protocol.specs.Numbers.{standard}
-use Rattle.protocol.specs.Bytes.{at_most}
-use Rattle.protocol.specs.Tree.{Property, is_signed}
+use mathlib.Core.Path.{◌≡◌}
+use Rattle.protocol.specs.Tree.{Property}
 use Rattle.protocol.specs.Answer.{in_range, takes_sign}
 use Rattle.tree.specs.declared.record.Fields.{Fields}
 use Rattle.tree.specs.Lookup.{FieldsAre, numbers_of}

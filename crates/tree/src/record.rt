@@ -1,20 +1,21 @@
 // A property's numbers, and the texts of nodes and properties.
-ghost use Rattle.std.specs.Prelude.{◌≡◌, ◌+◌, ◌<◌, ◌≤◌, ◌^◌, [], length, get_or};
+ghost use Rattle.std.specs.Prelude.{◌≡◌, ◌+◌, ◌*◌, ◌<◌, ◌≤◌, ◌^◌, [], length, get_or};
+ghost use Rattle.std.specs.Option.{ForSome};
 ghost use Rattle.protocol.specs.Numbers.{bit_read, bit_write, bit_live, bit_signed};
 ghost use Rattle.protocol.specs.Bytes.{bit, text, ordered, at_most};
 ghost use Rattle.protocol.specs.Buffer.{Put, fitting};
 ghost use Rattle.protocol.specs.Tree.{node_in, property_in, step_code};
 ghost use Rattle.protocol.specs.Answer.{record_texts};
-ghost use Rattle.tree.specs.Form.{properties_start};
-ghost use Rattle.tree.specs.Seen.{property_seen, seen, option_count};
-ghost use Rattle.tree.specs.Steps.{entries};
+ghost use Rattle.tree.specs.Form.{property_size, properties_start};
+ghost use Rattle.tree.specs.Seen.{property_seen, seen, node_count, property_count, option_count};
+ghost use Rattle.tree.specs.Steps.{PlaceIs, entries};
 ghost use Rattle.tree.specs.Lookup.{FieldsAre, NextWhere, numbers_of};
 
-use super::{NODE_SIZE, PROPERTY_SIZE, bytes, texts};
+use super::{NODE_SIZE, PROPERTY_SIZE, bytes, part, texts};
 use protocol::{BIT_LIVE, BIT_READ, BIT_SIGNED, BIT_STEP, BIT_WRITE, ENUMERATION, STEP_MASK};
 
 // What a property's record holds beside its texts.
-#[derive(Clone, Copy)]
+#[derive(Clone, Copy, Default)]
 pub struct Fields {
     pub node: u8,
     pub kind: u8,
@@ -133,21 +134,24 @@ fn cut_record(tree: &[u8], at: usize) -> [u8; 16]
     cut
 }
 
+// Where a property's record begins; nothing where there is no such property.
+pub(crate) fn record_place(tree: &[u8], place: usize) -> Option<usize>
+    ensures place { PlaceIs (property_count tree.now) place (properties_start (node_count tree.now) + place * property_size) result }
+    ensures near { ForSome result (λ at. at < 65536) }
+{
+    if place < usize::from(bytes::byte_at(tree, 1)) {
+        return Some(properties_start(tree) + place * PROPERTY_SIZE);
+    }
+    None
+}
+
 // The numbers of the property at a place; all 0 where there is none.
 pub fn read_fields(tree: &[u8], place: usize) -> Fields
     ensures { FieldsAre (property_in (seen tree.now) place) result }
 {
-    if usize::from(bytes::byte_at(tree, 1)) <= place {
-        return Fields {
-            node: 0,
-            kind: 0,
-            min: 0,
-            max: 0,
-            attribute: 0,
-            format: 0,
-        };
-    }
-    let at = properties_start(tree) + place * PROPERTY_SIZE;
+    let Some(at) = record_place(tree, place) else {
+        return Fields::default();
+    };
     if at + PROPERTY_SIZE <= tree.len() {
         return fields_of(&tree[at..]);
     }
@@ -173,10 +177,7 @@ pub fn next_where<F: Fn(Fields) -> bool>(tree: &[u8], from: usize, test: F) -> u
 pub fn put_name(tree: &[u8], node: usize, out: &mut [u8], at: usize) -> usize
     ensures { Put at (fitting at (text (node_in (seen tree.now) node).name) out.old) out.old result out.new }
 {
-    if usize::from(bytes::byte_at(tree, 0)) <= node {
-        return texts::put_texts(tree, tree.len(), 1, out, at);
-    }
-    let from = bytes::half_at(tree, 3 + node * NODE_SIZE) as usize;
+    let from = part::name_place(tree, node).unwrap_or(tree.len());
     texts::put_texts(tree, from, 1, out, at)
 }
 
@@ -184,14 +185,13 @@ pub fn put_name(tree: &[u8], node: usize, out: &mut [u8], at: usize) -> usize
 pub fn put_record_texts(tree: &[u8], place: usize, out: &mut [u8], at: usize) -> usize
     ensures { Put at (fitting at (record_texts (property_in (seen tree.now) place)) out.old) out.old result out.new }
 {
-    if usize::from(bytes::byte_at(tree, 1)) <= place {
+    let Some(record) = record_place(tree, place) else {
         return texts::put_texts(tree, tree.len(), 1, out, at);
-    }
-    let record = properties_start(tree) + place * PROPERTY_SIZE;
+    };
     let count = option_count(
         bytes::byte_at(tree, record + 1),
         bytes::word_at(tree, record + 6),
     );
-    let from = bytes::half_at(tree, record + 14) as usize;
+    let from = usize::from(bytes::half_at(tree, record + 14));
     texts::put_texts(tree, from, count + 1, out, at)
 }

@@ -11,5 +11,5 @@ returns c =
     omega (
       arith,
       distance-ordered args.signed args.m args.n (omega arith) (omega arith)
-      ∙ sym (ap₂ (λ m n. (n - m) + (m - n)) c.ordered_word.ensures c.ordered_word-2.ensures),
+          ∙ sym (ap₂ (λ m n. (n - m) + (m - n)) c.ordered_word.ensures c.ordered_word-2.ensures),
     )

@@ -1,9 +1,7 @@
 -- `tree::texts::put_texts` meets its contract. Assumes nothing.
 use native.Mathlib.Omega.{arith}
-use mathlib.Core.Path.{ap, ◌∙◌}
-use Prim.Native.Nat.{◌+◌, ◌-◌}
 use lib.ListN.{length}
-use Rattle.tree.proofs.TextLaws.{copy_begins, copy_more, copy_full, copy_ends, left_behind, place_behind}
+use Rattle.tree.proofs.TextLaws.{copy_begins, copy_more, copy_ends, left_behind, place_behind}
 use Rattle.tree.proofs.texts.put_texts.Goals as goal
 
 pub loop-next-init : goal.loop-next-init
@@ -20,4 +18,3 @@ loop-next-preserved c =
     c.byte_at-b.ensures
     (left_behind c.byte_at-b.result c.loop-next.left c.from-left.ensures)
     (place_behind c.loop-next.i (length c.args.tree.now) c.from-i.ensures)
-
