@@ -18,14 +18,16 @@ use Rattle.protocol.specs.Stream as rule
 use Rattle.protocol.specs.Stream.{Stream, outside, inside, Event, step, collect, on, ends}
 use Rattle.protocol.proofs.TestLaws.{and_left, and_right}
 use Rattle.stream.specs.declared.state.Place.{Place}
-use Rattle.stream.specs.declared.state.Found.{Found}
-use Rattle.stream.specs.declared.state.Found.TheVariants.{At, Formless}
-use Rattle.stream.specs.declared.feed.End.TheVariants.{NoFrame, ClosedWith, Paired, Long}
+use Rattle.protocol.specs.declared.Refusal.{Refusal}
+use Rattle.protocol.specs.declared.Refusal.TheVariants.{BadPair, TooLong}
+use Rattle.stream.specs.declared.state.Phase.{Phase}
+use Rattle.stream.specs.declared.state.Phase.TheVariants.{Outside, OutsideWaiting, Inside, InsideWaiting}
 use Rattle.stream.specs.declared.feed.Move.{Move}
-use Rattle.stream.specs.declared.feed.Move.TheVariants.{On, Keep, Closed, BadPair, TooLong}
+use Rattle.stream.specs.declared.feed.Move.TheVariants.{On, Keep, Closed, Dropped}
+use Rattle.std.proofs.Common.{Some, None, Ok, Err}
 use Rattle.stream.specs.State.{state_length, phase_of, content_in, state_form, keep, phase_in, length_in, has_form, stream_with, standing}
 use Rattle.stream.specs.Feed.{Ran, one_more, ended, next, run_from}
-use Rattle.stream.specs.Steps.{place_of, place, collect_of, paired_of, outside_of, move_of, end_of, RunIs}
+use Rattle.stream.specs.Steps.{phase_number, phase_at, place, Stands, collect_of, paired_of, outside_of, move_of, end_of, RunIs}
 
 -- The form, as bytes in front of the rest.
 abbrev pub head : Stream → List ℕ → List ℕ
@@ -40,7 +42,7 @@ keep_is s st =
 
 -- A state in which the content of a place stands already.
 pub record Placed (s : Stream) (p : Place) (st : List ℕ) : Type 0 where
-  pub phase : p.phase ≡ phase_of s
+  pub phase : p.phase ≡ phase_at s
   pub len : p.len ≡ length (content_in s)
   pub most : p.len ≤ max_content
   pub content : take p.len (drop 3 st) ≡ content_in s
@@ -68,19 +70,18 @@ keep_by s x y e = keep_past s x y (ap (drop (length (content_in s))) e)
 abbrev Moved : Stream → ℕ → Move → Type 0
 Moved s b (On p) =
     ((step s b).event ≡ rule.nothing)
-    × (p.phase ≡ phase_of (step s b).after)
+    × (p.phase ≡ phase_at (step s b).after)
     × (p.len ≡ length (content_in (step s b).after))
     × (take p.len (content_in s) ≡ content_in (step s b).after)
-Moved s b (Keep p) = (step s b ≡ on (inside false (content_in s ++ b ∷ []))) × (p ≡ place 2 (length (content_in s) + 1)) × (length (content_in s) < max_content)
+Moved s b (Keep p) = (step s b ≡ on (inside false (content_in s ++ b ∷ []))) × (p ≡ place Inside (length (content_in s) + 1)) × (length (content_in s) < max_content)
 Moved s b Closed = step s b ≡ ends (rule.closed (content_in s))
-Moved s b BadPair = step s b ≡ ends rule.dropped_pair
-Moved s b TooLong = step s b ≡ ends rule.dropped_long
+Moved s b (Dropped e) = (x : Event) × (step s b ≡ ends x) × (end_of x ≡ Err e)
 
-on_moved : (s s' : Stream) (b : ℕ) (p : Place) → step s b ≡ on s' → p.phase ≡ phase_of s' → p.len ≡ length (content_in s')
+on_moved : (s s' : Stream) (b : ℕ) (p : Place) → step s b ≡ on s' → p.phase ≡ phase_at s' → p.len ≡ length (content_in s')
     → take p.len (content_in s) ≡ content_in s' → Moved s b (On p)
 on_moved s s' b p e f g h = (
   ap (λ m. m.event) e,
-  f ∙ sym (ap (λ m. phase_of m.after) e),
+  f ∙ sym (ap (λ m. phase_at m.after) e),
   g ∙ sym (ap (λ m. length (content_in m.after)) e),
   h ∙ sym (ap (λ m. content_in m.after) e),
 )
@@ -90,51 +91,54 @@ unfolding collect_of collect
 collect_moved s b e = go (ltb (length (content_in s)) max_content) refl
   where
     go : (t : Bool) → ltb (length (content_in s)) max_content ≡ t
-        → Moved s b (cond t (Keep (place 2 (length (content_in s) + 1))) TooLong)
+        → Moved s b (cond t (Keep (place Inside (length (content_in s) + 1))) (Dropped TooLong))
     go true h = (e ∙ rw h, refl, ltb-true (length (content_in s)) max_content h)
-    go false h = e ∙ rw h
+    go false h = (rule.dropped_long, e ∙ rw h, refl)
 
 paired_moved : (c : List ℕ) (b : ℕ) → Moved (inside true c) b (paired_of (length c) b)
 unfolding paired_of step
 paired_moved c b = go (eqb b DLE) refl (eqb b ETX) refl (eqb b STX) refl
   where
     go : (t : Bool) → eqb b DLE ≡ t → (u : Bool) → eqb b ETX ≡ u → (v : Bool) → eqb b STX ≡ v
-        → Moved (inside true c) b (cond t (collect_of (length c)) (cond u Closed (cond v (On (place 2 0)) BadPair)))
+        → Moved (inside true c) b
+        (cond t (collect_of (length c)) (cond u Closed (cond v (On (place Inside 0)) (Dropped BadPair))))
     go true e u f v g = collect_moved (inside true c) b (rw e (ap (collect c) (sym (eqb-true b DLE e))))
     go false e true f v g = rw (e, f)
-    go false e false f true g = on_moved (inside true c) (inside false []) b (place 2 0) (rw (e, f, g)) refl refl refl
-    go false e false f false g = rw (e, f, g)
+    go false e false f true g = on_moved (inside true c) (inside false []) b (place Inside 0) (rw (e, f, g)) refl refl refl
+    go false e false f false g = (rule.dropped_pair, rw (e, f, g), refl)
 
-lone_moved : (c : List ℕ) (b : ℕ) → Moved (inside false c) b (cond (eqb b DLE) (On (place 3 (length c))) (collect_of (length c)))
+lone_moved : (c : List ℕ) (b : ℕ)
+    → Moved (inside false c) b (cond (eqb b DLE) (On (place InsideWaiting (length c))) (collect_of (length c)))
 unfolding step
 lone_moved c b = go (eqb b DLE) refl
   where
-    go : (t : Bool) → eqb b DLE ≡ t → Moved (inside false c) b (cond t (On (place 3 (length c))) (collect_of (length c)))
-    go true e = on_moved (inside false c) (inside true c) b (place 3 (length c)) (rw e) refl refl (take_all (length c) c (omega arith))
+    go : (t : Bool) → eqb b DLE ≡ t
+        → Moved (inside false c) b (cond t (On (place InsideWaiting (length c))) (collect_of (length c)))
+    go true e =
+        on_moved (inside false c) (inside true c) b (place InsideWaiting (length c)) (rw e) refl refl
+        (take_all (length c) c (omega arith))
     go false e = collect_moved (inside false c) b (rw e)
 
-waits_moved : (w : Bool) (b : ℕ) → step (outside w) b ≡ on (outside (eqb b DLE))
-    → Moved (outside w) b (cond (eqb b DLE) (On (place 1 0)) (On (place 0 0)))
+waits_moved : (w : Bool) (b : ℕ) → step (outside w) b ≡ on (outside (eqb b DLE)) → Moved (outside w) b (outside_of b)
+unfolding outside_of
 waits_moved w b h = go (eqb b DLE) refl
   where
-    go : (t : Bool) → eqb b DLE ≡ t → Moved (outside w) b (cond t (On (place 1 0)) (On (place 0 0)))
-    go true e = on_moved (outside w) (outside true) b (place 1 0) (h ∙ ap (λ t. on (outside t)) e) refl refl refl
-    go false e = on_moved (outside w) (outside false) b (place 0 0) (h ∙ ap (λ t. on (outside t)) e) refl refl refl
+    go : (t : Bool) → eqb b DLE ≡ t → Moved (outside w) b (On (place (cond t OutsideWaiting Outside) 0))
+    go true e = on_moved (outside w) (outside true) b (place OutsideWaiting 0) (h ∙ ap (λ t. on (outside t)) e) refl refl refl
+    go false e = on_moved (outside w) (outside false) b (place Outside 0) (h ∙ ap (λ t. on (outside t)) e) refl refl refl
 
-outside_moved : (w : Bool) (b : ℕ) → Moved (outside w) b (outside_of (phase_of (outside w)) b)
-unfolding step outside_of
-outside_moved false b = waits_moved false b refl
-outside_moved true b = go (eqb b STX) refl
+opens_moved : (b : ℕ) → Moved (outside true) b (cond (eqb b STX) (On (place Inside 0)) (outside_of b))
+unfolding step
+opens_moved b = go (eqb b STX) refl
   where
-    go : (t : Bool) → eqb b STX ≡ t
-        → Moved (outside true) b (cond t (On (place 2 0)) (cond (eqb b DLE) (On (place 1 0)) (On (place 0 0))))
-    go true e = on_moved (outside true) (inside false []) b (place 2 0) (rw e) refl refl refl
+    go : (t : Bool) → eqb b STX ≡ t → Moved (outside true) b (cond t (On (place Inside 0)) (outside_of b))
+    go true e = on_moved (outside true) (inside false []) b (place Inside 0) (rw e) refl refl refl
     go false e = waits_moved true b (rw e)
 
-moved : (s : Stream) (b : ℕ) → Moved s b (move_of (phase_of s) (length (content_in s)) b)
-unfolding move_of
-moved (outside false) b = outside_moved false b
-moved (outside true) b = outside_moved true b
+moved : (s : Stream) (b : ℕ) → Moved s b (move_of (phase_at s) (length (content_in s)) b)
+unfolding move_of step
+moved (outside false) b = waits_moved false b refl
+moved (outside true) b = opens_moved b
 moved (inside false c) b = lone_moved c b
 moved (inside true c) b = paired_moved c b
 
@@ -265,7 +269,7 @@ module _ (st₀ bytes : List ℕ) {p : Place} {st : List ℕ} {i : ℕ} (w : Run
   -- A byte that closes or drops a frame.
   ends_with : (x : Event) → step s b ≡ ends x → ((r : Ran) → next x rule.begin (keep rule.begin (keep s st)) r ≡ ended x rule.begin (keep rule.begin (keep s st)))
       → ((c : List ℕ) → x ≡ rule.closed c → c ≡ content_in s)
-      → RunIs (run_from (standing st₀) st₀ bytes) (end_of x) (i + 1) (place 0 0) st
+      → RunIs (run_from (standing st₀) st₀ bytes) (end_of x) (i + 1) (place Outside 0) st
   ends_with x e f g =
       let k : List ℕ = keep s st in
       let bs : List ℕ = drop (i + 1) bytes in
@@ -276,7 +280,7 @@ module _ (st₀ bytes : List ℕ) {p : Place} {st : List ℕ} {i : ℕ} (w : Run
       (run_cons s k b bs
       ∙ ap (λ m. next m.event m.after (keep m.after k) (run_from m.after (keep m.after k) bs)) e
       ∙ f (run_from rule.begin (keep rule.begin k) bs)) in
-      subst (λ r. RunIs r (end_of x) (i + 1) (place 0 0) st) (sym is)
+      subst (λ r. RunIs r (end_of x) (i + 1) (place Outside 0) st) (sym is)
       (record {
         end = refl;
         taken = refl;
@@ -291,23 +295,34 @@ module _ (st₀ bytes : List ℕ) {p : Place} {st : List ℕ} {i : ℕ} (w : Run
             (ap (λ n. take n (drop 3 st)) long ∙ w.placed.content ∙ sym (g c q), omega (arith, long, w.placed.most));
       })
 
-  pub closes : Closed ≡ move_of p.phase p.len b → RunIs (run_from (standing st₀) st₀ bytes) (ClosedWith p.len) (i + 1) (place 0 0) st
+  pub closes : Closed ≡ move_of p.phase p.len b
+      → RunIs (run_from (standing st₀) st₀ bytes) (Ok (Some p.len)) (i + 1) (place Outside 0) st
   unfolding next
   closes e =
-      subst (λ n. RunIs (run_from (standing st₀) st₀ bytes) (ClosedWith n) (i + 1) (place 0 0) st) (sym w.placed.len)
+      subst (λ n. RunIs (run_from (standing st₀) st₀ bytes) (Ok (Some n)) (i + 1) (place Outside 0) st) (sym w.placed.len)
       (ends_with (rule.closed (content_in s)) (told e) (λ r. refl) (λ c q. closed_same q))
 
-  pub drops_pair : BadPair ≡ move_of p.phase p.len b → RunIs (run_from (standing st₀) st₀ bytes) Paired (i + 1) (place 0 0) st
+  drops_by : (x : Event) {f : Refusal} → step s b ≡ ends x → end_of x ≡ Err f
+      → RunIs (run_from (standing st₀) st₀ bytes) (Err f) (i + 1) (place Outside 0) st
   unfolding next
-  drops_pair e = ends_with rule.dropped_pair (told e) (λ r. refl) (λ c q. absurd (not_closed rule.dropped_pair c refl q))
+  drops_by rule.nothing e q = absurd (cc)
+  drops_by (rule.closed c) e q = absurd (cc)
+  drops_by rule.dropped_pair {f} e q =
+      subst (λ r. RunIs (run_from (standing st₀) st₀ bytes) r (i + 1) (place Outside 0) st) q
+      (ends_with rule.dropped_pair e (λ r. refl) (λ c q. absurd (not_closed rule.dropped_pair c refl q)))
+  drops_by rule.dropped_long {f} e q =
+      subst (λ r. RunIs (run_from (standing st₀) st₀ bytes) r (i + 1) (place Outside 0) st) q
+      (ends_with rule.dropped_long e (λ r. refl) (λ c q. absurd (not_closed rule.dropped_long c refl q)))
 
-  pub drops_long : TooLong ≡ move_of p.phase p.len b → RunIs (run_from (standing st₀) st₀ bytes) Long (i + 1) (place 0 0) st
-  unfolding next
-  drops_long e = ends_with rule.dropped_long (told e) (λ r. refl) (λ c q. absurd (not_closed rule.dropped_long c refl q))
+  pub drops : {f : Refusal} → Dropped f ≡ move_of p.phase p.len b
+      → RunIs (run_from (standing st₀) st₀ bytes) (Err f) (i + 1) (place Outside 0) st
+  drops {f} e =
+      let m : Moved s b (Dropped f) = told e in
+      drops_by m.0 m.1 m.2
 
 -- All bytes taken.
 pub all_taken : (st₀ bytes : List ℕ) {p : Place} {st : List ℕ} {i : ℕ} → Running st₀ bytes p st i → length bytes ≤ i
-    → RunIs (run_from (standing st₀) st₀ bytes) NoFrame i p st
+    → RunIs (run_from (standing st₀) st₀ bytes) (Ok None) i p st
 unfolding run_from
 all_taken st₀ bytes {p} {st} {i} w h =
     let none_left : drop i bytes ≡ [] = drop_of_length-le bytes h in
@@ -315,7 +330,7 @@ all_taken st₀ bytes {p} {st} {i} w h =
     w.whole
     ∙ ap (λ l. plus i (run_from w.s (keep w.s st) l)) none_left
     ∙ ap (λ n. record { event = rule.nothing; taken = n; after = w.s; bytes = keep w.s st }) (add-zero i) in
-    subst (λ r. RunIs r NoFrame i p st) (sym is)
+    subst (λ r. RunIs r (Ok None) i p st) (sym is)
     (record {
       end = refl;
       taken = refl;
@@ -389,10 +404,10 @@ module _ (st : List ℕ) (f : Formed st) where
       content_with (phase_in st) area f.phase
       (ap (λ n. leb 2 (phase_in st) || eqb n 0) area_length ∙ f.inside_or_empty)
 
-  pub stands : Placed (standing st) (place (phase_in st) (length_in st)) st
+  pub stands : Placed (standing st) (place (phase_at (standing st)) (length_in st)) st
   stands =
       record {
-        phase = sym (phase_with (phase_in st) area f.phase);
+        phase = refl;
         len = sym (ap length content_standing ∙ area_length);
         most = f.most;
         content = sym content_standing;
@@ -403,34 +418,40 @@ module _ (st : List ℕ) (f : Formed st) where
   pub keep-standing : Bytes st → keep (standing st) st ≡ st
   keep-standing all =
       keep_placed stands
-      ∙ ap₂ (λ x n. x ∷ (half n ++ drop 3 st)) (sym stands.phase) (sym stands.len)
+      ∙ ap₂ (λ x n. x ∷ (half n ++ drop 3 st)) (phase_with (phase_in st) area f.phase) (sym stands.len)
       ∙ front_three st (omega (arith, f.size)) all
 
-At-same : {p q : Place} → At p ≡ At q → p ≡ q
-At-same h = cc
+-- Phases are told apart by their numbers.
+phase_back : ℕ → Phase
+phase_back n = cond (eqb n 0) Outside (cond (eqb n 1) OutsideWaiting (cond (eqb n 2) Inside InsideWaiting))
 
-abbrev is_at : Found → Bool
-is_at (At p) = true
-is_at Formless = false
+back_phase : (p : Phase) → phase_back (phase_number p) ≡ p
+unfolding phase_back
+back_phase Outside = refl
+back_phase OutsideWaiting = refl
+back_phase Inside = refl
+back_phase InsideWaiting = refl
 
-pub placed_formed : (st : List ℕ) {p : Place} → place_of st ≡ At p → (has_form st ≡ true) × (place (phase_in st) (length_in st) ≡ p)
-unfolding place_of
-placed_formed st {p} h = go (has_form st) refl
-  where
-    go : (t : Bool) → has_form st ≡ t → (has_form st ≡ true) × (place (phase_in st) (length_in st) ≡ p)
-    go true e = (e, At-same (sym (ap (λ t. cond t (At (place (phase_in st) (length_in st))) Formless) e) ∙ h))
-    go false e =
-        absurd (false≢true (ap is_at (sym (ap (λ t. cond t (At (place (phase_in st) (length_in st))) Formless) e) ∙ h)))
+pub number_phase : (s : Stream) → phase_number (phase_at s) ≡ phase_of s
+number_phase (outside false) = refl
+number_phase (outside true) = refl
+number_phase (inside false c) = refl
+number_phase (inside true c) = refl
+
+pub phase_same : (p : Phase) (s : Stream) → phase_number p ≡ phase_of s → p ≡ phase_at s
+phase_same p s e = sym (back_phase p) ∙ ap phase_back (e ∙ sym (number_phase s)) ∙ back_phase (phase_at s)
 
 -- Where a call begins.
-pub run_begins : (st bytes : List ℕ) {p : Place} → place_of st ≡ At p → Bytes st → Running st bytes p st 0
+pub run_begins : (st bytes : List ℕ) {p : Place} → Stands st p → Bytes st → Running st bytes p st 0
 run_begins st bytes {p} h all =
-    let q : (has_form st ≡ true) × (place (phase_in st) (length_in st) ≡ p) = placed_formed st h in
-    let f : Formed st = form_of st q.0 in
+    let f : Formed st = form_of st h.form in
     let r : Ran = run_from (standing st) st bytes in
+    let phase : p.phase ≡ phase_at (standing st) =
+    phase_same p.phase (standing st) (sym h.phase ∙ sym (phase_with (phase_in st) (take (length_in st) (drop 3 st)) f.phase)) in
+    let is : place (phase_at (standing st)) (length_in st) ≡ p = ap₂ place (sym phase) (sym h.len) in
     record {
       s = standing st;
-      placed = subst (λ x. Placed (standing st) x st) q.1 (stands st f);
+      placed = subst (λ x. Placed (standing st) x st) is (stands st f);
       whole =
           sym (ap (λ n. record { event = r.event; taken = n; after = r.after; bytes = r.bytes }) (zero-add r.taken))
           ∙ ap (λ x. plus 0 (run_from (standing st) x bytes)) (sym (keep-standing st f all));

@@ -1,6 +1,8 @@
 -- What one call of the stream reader gives, from a lent state.
-use Rattle.std.specs.Prelude.{ℕ, suc, ◌≡◌, cond, List, [], ◌∷◌, length, ltb}
-use Rattle.protocol.specs.Numbers.{unsound, no_room, no_frame, bad_pair, too_long, room_data}
+use Rattle.std.specs.Prelude.{ℕ, suc, ◌≡◌, cond, List, [], ◌∷◌, length, ltb, Option, Some, None, Result, Ok, Err}
+use Rattle.protocol.specs.Numbers.{done, unsound, no_room, no_frame, bad_pair, too_long, room_data}
+use Rattle.protocol.specs.declared.Refusal.{Refusal}
+use Rattle.protocol.specs.Refusal.{refusal_number}
 use Rattle.protocol.specs.Frame.{Received, refused, judge}
 use Rattle.protocol.specs.Buffer.{over}
 use Rattle.protocol.specs.Stream as rule
@@ -68,6 +70,18 @@ fed address state bytes room =
     cond (has_form state)
     (cond (ltb room room_data) (takes_none no_room state) (fed_by address (run_from (standing state) state bytes)))
     (takes_none unsound state)
+
+-- What a call tells of a frame, as code has it: none ended, one closed whose data has this length, or a refusal. Its number, and the
+-- length of the data that it put at the front of the output.
+abbrev pub fed_number : Result (Option ℕ) Refusal → ℕ
+fed_number (Ok None) = no_frame
+fed_number (Ok (Some n)) = done
+fed_number (Err e) = refusal_number e
+
+abbrev pub fed_length : Result (Option ℕ) Refusal → ℕ
+fed_length (Ok None) = 0
+fed_length (Ok (Some n)) = n
+fed_length (Err e) = 0
 
 -- The promise of `feed`: each number it returns, and every byte of state and output afterwards.
 pub record Feeds (what : FedBy) (out : List ℕ) (n count size : ℕ) (state' out' : List ℕ) : Type 0 where

@@ -1,14 +1,12 @@
 // Bytes fed to the stream reader: one by one from where it stands, up to the one that closes or drops a frame.
-ghost use Rattle.std.specs.Prelude.{◌≡◌, length};
+ghost use Rattle.std.specs.Prelude.{◌≡◌, ◌≤◌, Some, length};
 ghost use Rattle.stream.specs.State.{standing};
-ghost use Rattle.stream.specs.Feed.{run_from, fed, Feeds};
-ghost use Rattle.stream.specs.Steps.{place_of, move_of, collect_of, paired_of, outside_of, RunIs, ended_at};
+ghost use Rattle.stream.specs.Feed.{run_from, fed, Feeds, fed_number, fed_length};
+ghost use Rattle.stream.specs.Steps.{PlaceIs, move_of, collect_of, paired_of, outside_of, RunIs, ended_at, Behind, ReadIs};
 
 use super::state;
-use super::state::{Found, Place};
-use protocol::{
-    BAD_PAIR, DLE, ETX, MAX_CONTENT, NO_FRAME, NO_ROOM, ROOM_DATA, STX, TOO_LONG, UNSOUND,
-};
+use super::state::{Phase, Place};
+use protocol::{DLE, ETX, MAX_CONTENT, ROOM_DATA, Refusal, STX};
 
 // What one byte brings about: the reader goes on, or keeps the byte as content and goes on; or a frame is closed or dropped.
 #[derive(Drop)]
@@ -16,8 +14,7 @@ pub(crate) enum Move {
     On(Place),
     Keep(Place),
     Closed,
-    BadPair,
-    TooLong,
+    Dropped(Refusal),
 }
 
 // One content byte more.
@@ -26,165 +23,156 @@ fn collect(len: usize) -> Move
 {
     if len < MAX_CONTENT {
         return Move::Keep(Place {
-            phase: 2,
+            phase: Phase::Inside,
             len: len + 1,
         });
     }
-    Move::TooLong
+    Move::Dropped(Refusal::TooLong)
 }
 
 // The second byte of a pair inside a frame.
 fn paired(len: usize, b: u8) -> Move
     ensures { result ≡ paired_of len b }
 {
-    if b == DLE {
-        return collect(len);
+    match b {
+        DLE => collect(len),
+        ETX => Move::Closed,
+        STX => Move::On(Place {
+            phase: Phase::Inside,
+            len: 0,
+        }),
+        _ => Move::Dropped(Refusal::BadPair),
     }
-    if b == ETX {
-        return Move::Closed;
-    }
-    if b == STX {
-        return Move::On(Place { phase: 2, len: 0 });
-    }
-    Move::BadPair
 }
 
-// A byte outside a frame: 10 02 opens one, and a 10h waits, also one behind another.
-fn outside(phase: u8, b: u8) -> Move
-    ensures { result ≡ outside_of phase b }
+// A byte outside a frame that does not open one: a 10h waits, also one behind another.
+fn outside(b: u8) -> Move
+    ensures { result ≡ outside_of b }
 {
-    if phase == 1 && b == STX {
-        return Move::On(Place { phase: 2, len: 0 });
-    }
-    if b == DLE {
-        return Move::On(Place { phase: 1, len: 0 });
-    }
-    Move::On(Place { phase: 0, len: 0 })
+    let phase = if b == DLE {
+        Phase::OutsideWaiting
+    } else {
+        Phase::Outside
+    };
+    Move::On(Place { phase, len: 0 })
 }
 
 // One byte, from where the reader stands.
 fn move_on(place: Place, b: u8) -> Move
     ensures { result ≡ move_of place.phase place.len b }
 {
-    let phase = place.phase;
     let len = place.len;
-    if phase == 3 {
-        return paired(len, b);
+    match place.phase {
+        Phase::InsideWaiting => paired(len, b),
+        Phase::Inside if b == DLE => Move::On(Place {
+            phase: Phase::InsideWaiting,
+            len,
+        }),
+        Phase::Inside => collect(len),
+        Phase::OutsideWaiting if b == STX => Move::On(Place {
+            phase: Phase::Inside,
+            len: 0,
+        }),
+        Phase::OutsideWaiting => outside(b),
+        Phase::Outside => outside(b),
     }
-    if phase == 2 {
-        if b == DLE {
-            return Move::On(Place { phase: 3, len });
-        }
-        return collect(len);
-    }
-    outside(phase, b)
 }
 
-// How a call ended: with no frame, with one closed that has so many content bytes, or with one dropped.
-#[derive(Drop)]
-pub(crate) enum End {
-    NoFrame,
-    ClosedWith(usize),
-    Paired,
-    Long,
-}
-
+// How a call ended: with no frame, with one closed that has so many content bytes, or with one dropped; how many bytes it took,
+// and where the reader stands then.
 #[derive(Drop)]
 pub(crate) struct Run {
-    pub end: End,
+    pub end: Result<Option<usize>, Refusal>,
     pub taken: usize,
     pub place: Place,
 }
 
 // A call whose last byte closed or dropped a frame: the reader is outside, with nothing waiting.
-fn ended(end: End, taken: usize) -> Run
+fn ended(end: Result<Option<usize>, Refusal>, taken: usize) -> Run
     ensures { result ≡ ended_at end taken }
 {
     Run {
         end,
         taken,
-        place: Place { phase: 0, len: 0 },
+        place: Place {
+            phase: Phase::Outside,
+            len: 0,
+        },
     }
 }
 
 // Bytes fed from a place until one closes or drops a frame. Content goes into the state as it comes; its first three bytes are
 // left to put_place.
 fn run_bytes(start: Place, bytes: &[u8], state: &mut [u8]) -> Run
-    requires { place_of state.old ≡ Found.At start }
+    requires { PlaceIs state.old (Some start) }
     ensures { RunIs (run_from (standing state.old) state.old bytes.now) result.end result.taken result.place state.new }
 {
     let mut place = start;
-    let mut i = 0;
-    while i < bytes.len() {
-        let b = bytes[i];
-        i += 1;
-        match move_on(place, b) {
-            Move::On(next) => {
-                place = next;
-            }
+    for (i, b) in bytes.iter().enumerate() {
+        match move_on(place, *b) {
+            Move::On(next) => place = next,
             Move::Keep(kept) => {
-                let at = place.len + 3;
-                state[at] = b;
+                state[place.len + 3] = *b;
                 place = kept;
             }
-            Move::Closed => return ended(End::ClosedWith(place.len), i),
-            Move::BadPair => return ended(End::Paired, i),
-            Move::TooLong => return ended(End::Long, i),
+            Move::Closed => return ended(Ok(Some(place.len)), i + 1),
+            Move::Dropped(refusal) => return ended(Err(refusal), i + 1),
         }
     }
     Run {
-        end: End::NoFrame,
-        taken: i,
+        end: Ok(None),
+        taken: bytes.len(),
         place,
     }
 }
 
-// What a call of feed returns: a number of document 01 or 255, how many bytes it took, and the length of the data that it put
-// at the front of the output.
-#[derive(Drop)]
-pub struct Fed {
-    pub number: u8,
-    pub taken: usize,
-    pub len: usize,
+// What a call's last byte brought about, the data of a closed frame put at the front of an output: none without a frame, 3, 4, 5,
+// 6, 7 or the length of the data.
+fn read_end(
+    end: Result<Option<usize>, Refusal>,
+    address: u8,
+    state: &[u8],
+    out: &mut [u8],
+) -> Result<Option<usize>, Refusal>
+    requires { Behind end state.now }
+    ensures { ReadIs end address state.now out.old result out.new }
+{
+    let Some(len) = end? else {
+        return Ok(None);
+    };
+    let last = len + 3;
+    let read = frame::read::read_content(address, &state[3..last], out)?;
+    Ok(Some(read))
 }
 
-// A call that put no data.
-fn without_data(number: u8, taken: usize) -> Fed
-    ensures { result ≡ record { number = number; taken = taken; len = 0 } }
-{
-    Fed {
-        number,
-        taken,
-        len: 0,
-    }
+// What a call of feed returns: how many bytes it took, and what became of a frame: none ended, one was dropped, or one closed, whose
+// data of this length is at the front of the output.
+#[derive(Drop)]
+pub struct Fed {
+    pub taken: usize,
+    pub frame: Result<Option<usize>, Refusal>,
 }
 
 // Bytes fed to the stream reader, up to the one that closes or drops a frame: 1, 8, then what the stream rule gives.
 pub fn feed(state: &mut [u8], address: u8, bytes: &[u8], out: &mut [u8]) -> Fed
-    ensures { Feeds (fed address state.old bytes.now (length out.old)) out.old result.number result.taken result.len state.new out.new }
+    ensures { Feeds (fed address state.old bytes.now (length out.old)) out.old (fed_number result.frame) result.taken (fed_length result.frame) state.new out.new }
 {
-    let Found::At(place) = state::place_of(state) else {
-        return without_data(UNSOUND, 0);
+    let Some(place) = state::place_of(state) else {
+        return Fed {
+            taken: 0,
+            frame: Err(Refusal::Unsound),
+        };
     };
     if out.len() < ROOM_DATA {
-        return without_data(NO_ROOM, 0);
+        return Fed {
+            taken: 0,
+            frame: Err(Refusal::NoRoom),
+        };
     }
     let run = run_bytes(place, bytes, state);
     state::put_place(state, run.place);
-    let taken = run.taken;
-    let end = run.end;
-    match end {
-        End::NoFrame => without_data(NO_FRAME, taken),
-        End::Paired => without_data(BAD_PAIR, taken),
-        End::Long => without_data(TOO_LONG, taken),
-        End::ClosedWith(n) => {
-            let last = n + 3;
-            let w = frame::read::read_content(address, &state[3..last], out);
-            Fed {
-                number: w.number,
-                taken,
-                len: w.len,
-            }
-        }
+    Fed {
+        taken: run.taken,
+        frame: read_end(run.end, address, state, out),
     }
 }

@@ -1,63 +1,87 @@
 // The state that a caller lends: where the reader stands, read from its first bytes and put into them.
 ghost use Rattle.std.specs.Prelude.{◌≡◌, ◌≤◌, ◌∷◌, ◌++◌, length, drop};
 ghost use Rattle.protocol.specs.Bytes.{half};
-ghost use Rattle.stream.specs.Steps.{place_of};
+ghost use Rattle.stream.specs.Steps.{phase_number, IsPhase, most_of, PlaceIs};
 
 use protocol::MAX_CONTENT;
 
 // The length of a stream state (docs/FORMATS.md).
 pub const STATE_LEN: usize = 261;
 
-// Where a reader stands: the phase (0 outside, 1 outside with a 10h waiting, 2 inside, 3 inside with a 10h waiting), and how
-// many content bytes it has.
+// Whether a reader is inside a frame, and whether a 10h waits for the other byte of its pair.
+#[derive(Clone, Copy)]
+pub(crate) enum Phase {
+    Outside = 0,
+    OutsideWaiting = 1,
+    Inside = 2,
+    InsideWaiting = 3,
+}
+
+impl From<Phase> for u8 {
+    ghost from_gives = { λ phase n. n ≡ phase_number phase };
+
+    fn from(phase: Phase) -> u8 {
+        phase as u8
+    }
+}
+
+// The phase of a number.
+fn phase_of(n: u8) -> Option<Phase>
+    ensures { IsPhase n result }
+{
+    match n {
+        0 => Some(Phase::Outside),
+        1 => Some(Phase::OutsideWaiting),
+        2 => Some(Phase::Inside),
+        3 => Some(Phase::InsideWaiting),
+        _ => None,
+    }
+}
+
+// How many content bytes a reader may have: outside a frame none.
+fn most_content(phase: Phase) -> usize
+    ensures { result ≡ most_of phase }
+{
+    match phase {
+        Phase::Outside | Phase::OutsideWaiting => 0,
+        Phase::Inside | Phase::InsideWaiting => MAX_CONTENT,
+    }
+}
+
+// Where a reader stands: the phase, and how many content bytes it has.
 #[derive(Clone, Copy)]
 pub(crate) struct Place {
-    pub phase: u8,
+    pub phase: Phase,
     pub len: usize,
 }
 
-#[derive(Drop)]
-pub(crate) enum Found {
-    At(Place),
-    Formless,
-}
-
-// Where a lent state says that the reader stands. A look at its length and its first three bytes.
-pub(crate) fn place_of(state: &[u8]) -> Found
-    ensures { result ≡ place_of state.now }
+// Where a lent state says that the reader stands; none where it has no form. A look at its length and its first three bytes.
+pub(crate) fn place_of(state: &[u8]) -> Option<Place>
+    ensures { PlaceIs state.now result }
 {
     if state.len() != STATE_LEN {
-        return Found::Formless;
+        return None;
     }
-    let phase = state[0];
-    if 3 < phase {
-        return Found::Formless;
-    }
+    let phase = phase_of(state[0])?;
     // A length up to 258 has 0 or 1 here.
-    let high = word::wide(state[1]);
+    let high = usize::from(state[1]);
     if 1 < high {
-        return Found::Formless;
+        return None;
     }
-    let len = high * 256 + word::wide(state[2]);
-    if MAX_CONTENT < len {
-        return Found::Formless;
+    let len = high * 256 + usize::from(state[2]);
+    if most_content(phase) < len {
+        return None;
     }
-    if 2 <= phase {
-        return Found::At(Place { phase, len });
-    }
-    if len == 0 {
-        return Found::At(Place { phase, len });
-    }
-    Found::Formless
+    Some(Place { phase, len })
 }
 
 // The first three bytes of a state, for a place.
 pub(crate) fn put_place(state: &mut [u8], place: Place)
     requires { (3 ≤ length state.old) × (place.len ≤ 258) }
-    ensures { state.new ≡ place.phase ∷ (half place.len ++ drop 3 state.old) }
+    ensures { state.new ≡ phase_number place.phase ∷ (half place.len ++ drop 3 state.old) }
 {
-    let len = place.len;
-    state[0] = place.phase;
-    state[1] = (len / 256 % 256) as u8;
-    state[2] = (len % 256) as u8;
+    let [high, low] = word::half_bytes_of(place.len as u16);
+    state[0] = u8::from(place.phase);
+    state[1] = high;
+    state[2] = low;
 }

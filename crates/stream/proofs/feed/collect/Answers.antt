@@ -1,5 +1,5 @@
 -- `stream::feed::collect` meets its contract. Assumes nothing.
-use borrow.Author.Tests.{lt-ltb, le-ltb}
+use Rattle.std.proofs.Common.{lt-ltb, le-ltb}
 use Rattle.protocol.specs.Numbers.{max_content}
 use Rattle.stream.specs.Steps.{collect_of}
 use Rattle.stream.proofs.feed.collect.Goals as goal

@@ -1,21 +1,21 @@
 -- `stream::feed::paired` meets its contract. Assumes nothing.
-use mathlib.Core.Path.{◌∙◌}
-use borrow.Author.Tests.{eq-eqb, ne_eqb}
+use Rattle.std.proofs.Common.{arith}
+use Rattle.std.proofs.lemmas.Grind.{common_steps}
 use Rattle.stream.specs.Steps.{paired_of}
 use Rattle.stream.proofs.feed.paired.Goals as goal
 
-pub returns-then-b-eq-DLE : goal.returns-then-b-eq-DLE
+pub returns-in-16 : goal.returns-in-16
 unfolding paired_of
-returns-then-b-eq-DLE c = c.collect.ensures ∙ simp (eq-eqb _ _ c.if-b-eq-DLE.true)
+returns-in-16 c = grind (arith, common_steps)
 
-pub returns-then-b-eq-ETX : goal.returns-then-b-eq-ETX
+pub returns-in-3 : goal.returns-in-3
 unfolding paired_of
-returns-then-b-eq-ETX c = simp (ne_eqb _ _ c.if-b-eq-DLE.false, eq-eqb _ _ c.if-b-eq-ETX.true)
+returns-in-3 c = grind (arith, common_steps)
 
-pub returns-then-b-eq-STX : goal.returns-then-b-eq-STX
+pub returns-in-2 : goal.returns-in-2
 unfolding paired_of
-returns-then-b-eq-STX c = simp (ne_eqb _ _ c.if-b-eq-DLE.false, ne_eqb _ _ c.if-b-eq-ETX.false, eq-eqb _ _ c.if-b-eq-STX.true)
+returns-in-2 c = grind (arith, common_steps)
 
-pub returns : goal.returns
+pub returns-in_default : goal.returns-in_default
 unfolding paired_of
-returns c = simp (ne_eqb _ _ c.if-b-eq-DLE.false, ne_eqb _ _ c.if-b-eq-ETX.false, ne_eqb _ _ c.if-b-eq-STX.false)
+returns-in_default c = grind (arith, common_steps)
