@@ -1,20 +1,9 @@
 -- No public promise is stated by these definitions: they follow the code step by step.
-use Rattle.std.specs.Prelude.{ℕ, ◌<◌, ◌≤◌, ◌≡◌, true, List, [], map, length, get_or, take}
-use Rattle.protocol.specs.Buffer.{farthest}
+use Rattle.std.specs.Prelude.{ℕ, ◌<◌, ◌≡◌, List, [], map, length, get_or}
 use Rattle.protocol.specs.Tree.{Tree, depths_after}
 use Rattle.protocol.specs.Text.{each}
 use Rattle.protocol.specs.Listing.{Visit, Item, items_at, property_items, entry_of, entry_text}
 use Rattle.tree.specs.Seen.{seen}
-use Rattle.soundness.specs.Sound.{is_tree}
-use Rattle.listing.specs.declared.path.Path.{Path}
-
--- A path in its array.
-abbrev pub path_in : Path → List ℕ
-path_in p = take p.len p.numbers
-
-pub record PathIs (ns : List ℕ) (n : ℕ) (r : Path) : Type 0 where
-  pub is : path_in r ≡ ns
-  pub len : r.len ≡ n
 
 -- The lines of an item, of several, of a node's properties, of a node with its properties, and of all that the walk comes to.
 abbrev pub item_text : Tree → Item → List ℕ
@@ -32,9 +21,7 @@ own_text t k path = items_text t (items_at t (record { place = k; path = path })
 abbrev pub walk_text : Tree → List Visit → List ℕ
 walk_text t vs = items_text t (each (items_at t) vs)
 
--- A node of a sound tree, whose path is as long as the node is deep; and a place of the output.
-pub record Stands (tree : List ℕ) (k len at : ℕ) : Type 0 where
-  pub is_tree_lem : is_tree tree ≡ true
+-- A node of a tree, whose path is as long as the node is deep.
+pub record Stands (tree : List ℕ) (k len : ℕ) : Type 0 where
   pub within : k < length (seen tree).nodes
   pub depth : len ≡ get_or (depths_after [] (seen tree).nodes) k 0
-  pub place : at ≤ farthest

@@ -1,13 +1,23 @@
 // What the program `list` prints for its input: the listing of a tree, or the line that refuses it.
 ghost use Rattle.std.specs.Prelude.{length};
+ghost use Rattle.protocol.specs.Buffer.{Laid};
+ghost use Rattle.protocol.specs.Text.{decimal, line, answer_key};
 ghost use Rattle.listing.specs.Print.{printed, Prints};
 
 use super::LISTING_ROOM;
-use protocol::DONE;
-use text::line;
+use text::output::Output;
 
 // One byte more than the longest lent form has: so much of the input tells what it is.
 pub const INPUT_ROOM: usize = 27331;
+
+// The line that tells a number, at the front of an output.
+fn put_answer(number: u8, out: &mut [u8]) -> usize
+    ensures { Laid 0 (line answer_key (decimal number)) out.old result out.new }
+{
+    let mut output = Output { bytes: out, at: 0 };
+    output.put_line(b"answer", u32::from(number));
+    output.at
+}
 
 // The text, put at the front of an output, and its length. With less than LISTING_ROOM nothing is put.
 pub fn print(input: &[u8], out: &mut [u8]) -> usize
@@ -16,9 +26,8 @@ pub fn print(input: &[u8], out: &mut [u8]) -> usize
     if out.len() < LISTING_ROOM {
         return 0;
     }
-    let listed = super::list(input, out);
-    if listed.number == DONE {
-        return listed.len;
+    match super::list(input, out) {
+        Ok(size) => size,
+        Err(unwritten) => put_answer(u8::from(unwritten), out),
     }
-    line::put_number(b"answer", listed.number as u32, out, 0)
 }

@@ -2,3 +2,4 @@
 pub mod LaysLaws
 pub mod TextLaws
 pub mod ReadLaws
+pub mod UnwrittenLaws
