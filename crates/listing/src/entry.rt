@@ -36,7 +36,7 @@ fn put_properties(tree: SoundTree, k: usize, path: &[u8], output: &mut Output)
 {
     let bytes = tree.bytes;
     let start = record::properties_start(bytes);
-    let mut index = 0;
+    let mut index: u32 = 0;
     for p in 0..record::property_count(bytes) {
         if usize::from(bytes[start + p * PROPERTY_SIZE]) != k {
             continue;

@@ -46,7 +46,7 @@ fn walk_children(tree: SoundTree, k: usize, path: Path, output: &mut Output)
     ensures { Lays (walk_text (seen tree.entry.bytes.now) (below (drop (k + 1) (seen tree.entry.bytes.now).nodes) (k + 1) k (path_in path) 1)) output.old output.new }
 {
     let bytes = tree.bytes;
-    let mut number = 0;
+    let mut number: u8 = 0;
     for j in k + 1..record::node_count(bytes) {
         if usize::from(bytes[2 + j * NODE_SIZE]) != k {
             continue;
