@@ -204,32 +204,6 @@ judged_by : (a : ℕ) (t : Tally) (p q u v : Bool) → ltb t.count 3 ≡ p → l
 unfolding judged
 judged_by a t p q u v e f g h = rw (e, f, g, h)
 
--- The same, test by test.
-module _ (a : ℕ) (t : Tally) where
-  pub judged_short : t.count < 3 → Err TooShort ≡ judged a t
-  judged_short p =
-      sym
-      (judged_by a t true (ltb max_content t.count) (eqb t.sum 255) (eqb t.first a) (lt-ltb t.count 3 p) refl refl refl)
-
-  pub judged_long : 3 ≤ t.count → max_content < t.count → Err TooLong ≡ judged a t
-  judged_long p q =
-      sym
-      (judged_by a t false true (eqb t.sum 255) (eqb t.first a) (le-ltb t.count 3 p) (lt-ltb max_content t.count q) refl refl)
-
-  module _ (p : 3 ≤ t.count) (q : t.count ≤ max_content) where
-    in_bounds : (u v : Bool) → eqb t.sum 255 ≡ u → eqb t.first a ≡ v
-        → judged a t ≡ cond u (cond v (Ok (t.count - 2)) (Err OtherAddress)) (Err BadChecksum)
-    in_bounds u v e f = judged_by a t false false u v (le-ltb t.count 3 p) (le-ltb max_content t.count q) e f
-
-    pub judged_bad_sum : (t.sum ≡ 255 → ⊥) → Err BadChecksum ≡ judged a t
-    judged_bad_sum h = sym (in_bounds false (eqb t.first a) (ne_eqb t.sum 255 h) refl)
-
-    pub judged_other : t.sum ≡ 255 → (t.first ≡ a → ⊥) → Err OtherAddress ≡ judged a t
-    judged_other e h = sym (in_bounds true false (eq-eqb t.sum 255 e) (ne_eqb t.first a h))
-
-    pub judged_passed : t.sum ≡ 255 → t.first ≡ a → Ok (t.count - 2) ≡ judged a t
-    judged_passed e f = sym (in_bounds true true (eq-eqb t.sum 255 e) (eq-eqb t.first a f))
-
 -- A string whose content passes every test: its data stands behind the address.
 checks_passed : (a : ℕ) (s c : List ℕ) → read_frame a s ≡ received (data_in c) → 3 ≤ length c → Checks a s (Ok (length c - 2))
 checks_passed a s c e h =

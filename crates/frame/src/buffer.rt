@@ -30,14 +30,11 @@ pub(crate) fn put_doubled(out: &mut [u8], at: usize, b: u8) -> usize
 pub fn put_all(bs: &[u8], out: &mut [u8], at: usize) -> usize
     ensures { Put at (fitting at bs.now out.old) out.old result out.new }
 {
-    let mut next = at;
-    let mut i = 0;
-    while i < bs.len() {
-        if out.len() <= next {
-            return next;
-        }
-        next = put(out, next, bs[i]);
-        i += 1;
+    if out.len() <= at {
+        return at;
     }
+    let n = bs.len().min(out.len() - at);
+    let next = at + n;
+    out[at..next].copy_from_slice(&bs[..n]);
     next
 }

@@ -35,10 +35,7 @@ fn piece_at(s: &[u8], i: usize) -> Piece
     if p == DLE {
         return Piece::Doubled;
     }
-    if p != ETX {
-        return Piece::Bad;
-    }
-    if left == 2 {
+    if p == ETX && left == 2 {
         return Piece::End;
     }
     Piece::Bad
@@ -104,6 +101,7 @@ fn width(b: u8) -> usize
 }
 
 // A content judged by its tally: 4, 5, 6, 7 or how many bytes its data has.
+#[tactic(auto, unfolding(crate::specs::Steps::judged))]
 fn judge(address: u8, t: Tally) -> Result<usize, Refusal>
     ensures { result ≡ judged address t }
 {

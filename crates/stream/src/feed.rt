@@ -18,6 +18,7 @@ pub(crate) enum Move {
 }
 
 // One content byte more.
+#[tactic(auto, unfolding(crate::specs::Steps::collect_of))]
 fn collect(len: usize) -> Move
     ensures { result ≡ collect_of len }
 {
@@ -31,6 +32,7 @@ fn collect(len: usize) -> Move
 }
 
 // The second byte of a pair inside a frame.
+#[tactic(auto, unfolding(crate::specs::Steps::paired_of))]
 fn paired(len: usize, b: u8) -> Move
     ensures { result ≡ paired_of len b }
 {
@@ -46,6 +48,7 @@ fn paired(len: usize, b: u8) -> Move
 }
 
 // A byte outside a frame that does not open one: a 10h waits, also one behind another.
+#[tactic(auto, unfolding(crate::specs::Steps::outside_of))]
 fn outside(b: u8) -> Move
     ensures { result ≡ outside_of b }
 {
@@ -58,6 +61,7 @@ fn outside(b: u8) -> Move
 }
 
 // One byte, from where the reader stands.
+#[tactic(auto, unfolding(crate::specs::Steps::move_of))]
 fn move_on(place: Place, b: u8) -> Move
     ensures { result ≡ move_of place.phase place.len b }
 {

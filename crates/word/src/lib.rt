@@ -7,6 +7,7 @@ ghost use Rattle.protocol.specs.Request.{before_zero};
 ghost use Rattle.protocol.specs.Signed.{number_of, integer_of};
 
 // A number of 16 bits.
+#[tactic(auto, unfolding(protocol::specs::Bytes::number_after))]
 pub fn half_of(high: u8, low: u8) -> u16
     ensures { result ≡ number (high ∷ low ∷ []) }
 {
@@ -14,6 +15,7 @@ pub fn half_of(high: u8, low: u8) -> u16
 }
 
 // A number of 32 bits.
+#[tactic(auto, unfolding(protocol::specs::Bytes::number_after))]
 pub fn word_of(first: u8, second: u8, third: u8, last: u8) -> u32
     ensures { result ≡ number (first ∷ second ∷ third ∷ last ∷ []) }
 {
@@ -21,6 +23,7 @@ pub fn word_of(first: u8, second: u8, third: u8, last: u8) -> u32
 }
 
 // The bytes of a number of 16 bits.
+#[tactic(auto, unfolding(protocol::specs::Bytes::half))]
 pub fn half_bytes_of(n: u16) -> [u8; 2]
     ensures { result ≡ half n }
 {
@@ -28,6 +31,7 @@ pub fn half_bytes_of(n: u16) -> [u8; 2]
 }
 
 // The bytes of a number of 32 bits.
+#[tactic(auto, unfolding(protocol::specs::Bytes::word))]
 pub fn bytes_of(n: u32) -> [u8; 4]
     ensures { result ≡ word n }
 {
