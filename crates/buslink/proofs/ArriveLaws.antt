@@ -30,6 +30,7 @@ use Rattle.buslink.specs.Receive.{place_of, first_in, second_in, stored, is_tabl
 use Rattle.buslink.proofs.IdentifierLaws.{type_parts}
 use Rattle.buslink.proofs.IndicatorLaws.{Sendable, read_back}
 use Rattle.buslink.proofs.SendLaws.{indicator_marked, none_behind}
+pub use Rattle.buslink.proofs.SendLaws.{data-length}
 use Rattle.buslink.proofs.ReceiveLaws.{table_size_lem}
 
 -- A value of 24 bits is its own word again, and its word is its own number again. (One below zero is not 0.)
@@ -153,10 +154,6 @@ module _ (t : Tree) (cs : List Cell) (words : every (λ c. ltb c.word word_end) 
   second_arrives kind =
       ap indicator_in (sym (append-nil (bytes_of (indicator_of t cs (first_of kind + 1)))))
       ∙ read_back (indicator_of t cs (first_of kind + 1)) [] (sendable (first_of kind + 1))
-
-pub data-length : (t : Tree) (cs : List Cell) (kind : ℕ) → length (data_of t cs kind) ≡ 8
-unfolding data_of bytes_of
-data-length t cs kind = refl
 
 -- Type 9 ends in four zeros.
 pub last_zeros : (t : Tree) (cs : List Cell) → drop 4 (data_of t cs last_type) ≡ 0 ∷ 0 ∷ 0 ∷ 0 ∷ []

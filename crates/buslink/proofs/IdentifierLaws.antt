@@ -3,8 +3,8 @@
 use Prim.Native.Nat.{ℕ, ◌+◌, ◌-◌, ◌*◌, ◌/◌, ◌%◌, ◌^◌, ◌<◌, ◌≤◌}
 use native.Mathlib.Omega.{arith}
 use mathlib.Core.Path.{◌≡◌, refl, sym, ap, ◌∙◌}
-use mathlib.Core.Bool.{true, false, cond, ◌&&◌}
-use borrow.Author.Tests.{eq-eqb, ne_eqb, le-leb, lt-leb, leb-true, eqb-true}
+use mathlib.Core.Bool.{true, false}
+use borrow.Author.Tests.{eq-eqb, ne_eqb, leb-true, eqb-true}
 use lib.Bits.{bit_or, or_shifted}
 use lib.Dec.{leb}
 use Rattle.protocol.proofs.TestLaws.{and_left, and_right, and_both}
@@ -31,36 +31,10 @@ module _ (base sub : ℕ) where
         sub_to = leb-true sub 5 (and_right (leb 1 sub) _ subs);
       }
 
-  -- The tests, one after the other.
-  pub no_base : base < 1 → false ≡ is_station base sub
-  unfolding is_station
-  no_base h = rw (lt-leb 1 base h)
-
-  pub far_base : 1 ≤ base → 8 < base → false ≡ is_station base sub
-  unfolding is_station
-  far_base h k = rw (le-leb 1 base h, lt-leb base 8 k)
-
-  module _ (h : 1 ≤ base) (k : base ≤ 8) where
-    pub no_sub : sub < 1 → false ≡ is_station base sub
-    unfolding is_station
-    no_sub l = rw (le-leb 1 base h, le-leb base 8 k, lt-leb 1 sub l)
-
-    pub by_sub : 1 ≤ sub → leb sub 5 ≡ is_station base sub
-    unfolding is_station
-    by_sub l = rw (le-leb 1 base h, le-leb base 8 k, le-leb 1 sub l)
-
 module _ (kind : ℕ) where
   pub type_parts : is_indicator_type kind ≡ true → (2 ≤ kind) × (kind ≤ 9)
   unfolding is_indicator_type
   type_parts h = (leb-true 2 kind (and_left (leb 2 kind) _ h), leb-true kind 9 (and_right (leb 2 kind) _ h))
-
-  pub low_type : kind < 2 → false ≡ is_indicator_type kind
-  unfolding is_indicator_type
-  low_type h = rw (lt-leb 2 kind h)
-
-  pub by_last : 2 ≤ kind → leb kind 9 ≡ is_indicator_type kind
-  unfolding is_indicator_type
-  by_last h = rw (le-leb 2 kind h)
 
 -- The three fields of an identifier: 1555h above the type, and that above the station.
 module _ (base sub kind : ℕ) (station : is_station base sub ≡ true) (carries : is_indicator_type kind ≡ true) where
@@ -119,20 +93,16 @@ same_station base sub kind base' sub' kind' s t e =
       (station_in base sub s n refl).1 ∙ sym (station_in base' sub' t n same).1,
     )
 
--- The type for a station, by the tests of the code.
-module _ (base sub i : ℕ) where
-  pub not_station : is_station base sub ≡ false → 0 ≡ cond (is_station base sub && is_for base sub i) (type_in i) 0
-  not_station h = rw h
+-- Whose an identifier is, by the type in it.
+module _ (base sub i : ℕ) {k : ℕ} (e : k ≡ type_in i) where
+  pub other_type : is_indicator_type k ≡ false → is_for base sub i ≡ false
+  unfolding is_for
+  other_type h = rw (sym e, h)
 
-  module _ {kind : ℕ} (h : is_station base sub ≡ true) (e : kind ≡ type_in i) where
-    pub not_carried : is_indicator_type kind ≡ false → 0 ≡ cond (is_station base sub && is_for base sub i) (type_in i) 0
-    unfolding is_for
-    not_carried k = rw (h, sym e, k)
+  pub other_station : is_indicator_type k ≡ true → (identifier base sub k ≡ i → ⊥) → is_for base sub i ≡ false
+  unfolding is_for
+  other_station h d = rw (sym e, h, ne_eqb i (identifier base sub k) (λ q. d (sym q)))
 
-    pub not_its : is_indicator_type kind ≡ true → (identifier base sub kind ≡ i → ⊥) → 0 ≡ cond (is_station base sub && is_for base sub i) (type_in i) 0
-    unfolding is_for
-    not_its k d = rw (h, sym e, k, ne_eqb i (identifier base sub kind) (λ q. d (sym q)))
-
-    pub its_own : is_indicator_type kind ≡ true → identifier base sub kind ≡ i → kind ≡ cond (is_station base sub && is_for base sub i) (type_in i) 0
-    unfolding is_for
-    its_own k d = rw (h, sym e, k, eq-eqb i (identifier base sub kind) (sym d))
+  pub its_own : is_indicator_type k ≡ true → identifier base sub k ≡ i → is_for base sub i ≡ true
+  unfolding is_for
+  its_own h d = rw (sym e, h, eq-eqb i (identifier base sub k) (sym d))

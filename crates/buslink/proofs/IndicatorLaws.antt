@@ -7,11 +7,9 @@ use mathlib.Core.Path.{◌≡◌, refl, sym, ap, ap₂, ◌∙◌}
 use mathlib.Core.Bool.{not, ◌&&◌}
 use mathlib.Core.List.{List, [], ◌∷◌, ◌++◌}
 use borrow.Author.Tests.{lt-ltb, le-ltb}
-use lib.Bits.{bit_and, bit_or, or_shifted, or_comm}
+use lib.Bits.{bit_and, bit_or, or_shifted}
 use lib.Dec.{eqb}
-use lib.ListN.{length, get_or, set}
-use Rattle.protocol.specs.Buffer.{put_at}
-use Rattle.protocol.proofs.BufferLaws.{put_four}
+use lib.ListN.{get_or}
 use Rattle.buslink.specs.declared.indicator.Indicator.{Indicator}
 use Rattle.buslink.specs.Indicator.{bytes_of, extended, indicator_in, is_usable}
 use Rattle.buslink.specs.Steps.{usable_byte}
@@ -28,16 +26,6 @@ sign v h d =
     let far : 2 ^ 23 ≤ v = omega (arith, d) in
     packing.joined 32 24 255 v (omega arith) h ∙ rw (le-ltb v (2 ^ 23) far) (omega arith)
 
--- Three bytes as a number.
-pub three : (a b c : ℕ) → a < 2 ^ 8 → b < 2 ^ 8 → c < 2 ^ 8
-    → bit_or (bit_or a ((b * 2 ^ 8) % 2 ^ 32)) ((c * 2 ^ 16) % 2 ^ 32) ≡ a + b * 2 ^ 8 + c * 2 ^ 16
-three a b c h k l =
-    let low : bit_or a ((b * 2 ^ 8) % 2 ^ 32) ≡ b * 2 ^ 8 + a = or_comm a _ ∙ packing.joined 32 8 b a (omega (arith, k)) h in
-    ap (λ n. bit_or n ((c * 2 ^ 16) % 2 ^ 32)) low
-    ∙ or_comm (b * 2 ^ 8 + a) _
-    ∙ packing.joined 32 16 c (b * 2 ^ 8 + a) (omega (arith, l)) (omega (arith, h, k))
-    ∙ omega arith
-
 -- The fourth byte.
 pub upper_five : (d : ℕ) → d < 2 ^ 8 → bit_and d 0xF8 ≡ d / 2 ^ 3 * 2 ^ 3
 upper_five d h = packing.upper d 5 3 ∙ omega (arith, h)
@@ -47,20 +35,16 @@ fourth status format h k =
     let whole : status ≡ status / 2 ^ 3 * 2 ^ 3 = omega (arith, h) in
     ap (λ n. bit_or n format) whole ∙ or_shifted (status / 2 ^ 3) 3 format k ∙ ap (λ n. n + format) (sym whole)
 
--- The indicator in four bytes.
-pub taken_apart : (a b c d : ℕ) {v w : ℕ} → d < 2 ^ 8 → v ≡ a + b * 2 ^ 8 + c * 2 ^ 16 → w ≡ extended v
-    → record { value = w; status = bit_and d 0xF8; format = bit_and d 7 } ≡ indicator_in (a ∷ b ∷ c ∷ d ∷ [])
+-- The indicator in four bytes, and its four bytes.
+pub taken_apart : (bs : List ℕ) {v w : ℕ} → get_or bs 3 0 < 2 ^ 8 → v ≡ get_or bs 0 0 + get_or bs 1 0 * 2 ^ 8 + get_or bs 2 0 * 2 ^ 16 → w ≡ extended v
+    → record { value = w; status = bit_and (get_or bs 3 0) 0xF8; format = bit_and (get_or bs 3 0) 7 } ≡ indicator_in bs
 unfolding indicator_in
-taken_apart a b c d h e f = rw (f, e, upper_five d h, packing.lower d 3)
+taken_apart bs h e f = rw (f, e, upper_five (get_or bs 3 0) h, packing.lower (get_or bs 3 0) 3)
 
--- Four bytes stored.
-pub put_together : (i : Indicator) (old : List ℕ) (at : ℕ) → at + 4 ≤ length old → i.status % 2 ^ 3 ≡ 0 → i.format < 2 ^ 3
-    → set (set (set (set old at (bit_and i.value 255)) (at + 1) (bit_and (i.value / 2 ^ 8) 255)) (at + 2) (bit_and (i.value / 2 ^ 16) 255)) (at + 3) (bit_or i.status i.format)
-    ≡ put_at at (bytes_of i) old
+pub put_together : (i : Indicator) {a b c : ℕ} → a ≡ i.value % 2 ^ 8 → b ≡ i.value / 2 ^ 8 % 2 ^ 8 → c ≡ i.value / 2 ^ 16 % 2 ^ 8
+    → i.status % 2 ^ 3 ≡ 0 → i.format < 2 ^ 3 → a ∷ b ∷ c ∷ bit_or i.status i.format ∷ [] ≡ bytes_of i
 unfolding bytes_of
-put_together i old at h s f =
-    put_four old at _ _ _ _ h
-    ∙ rw (packing.lower i.value 8, packing.lower (i.value / 2 ^ 8) 8, packing.lower (i.value / 2 ^ 16) 8, fourth i.status i.format s f)
+put_together i e f g s h = rw (e, f, g, fourth i.status i.format s h)
 
 -- Usable, by the two upper bits of the fourth byte.
 two_bits : (q : ℕ) → q < 4 → eqb q 2 ≡ (eqb (q / 2 % 2) 1 && not (eqb (q % 2) 1))

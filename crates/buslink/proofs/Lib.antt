@@ -3,6 +3,5 @@ pub mod IdentifierLaws
 pub mod IndicatorLaws
 pub mod SendLaws
 pub mod ReceiveLaws
-pub mod RecordsLaws
 pub mod ArriveLaws
 pub mod ExampleLaws

@@ -11,27 +11,30 @@ use mathlib.Core.Option.{Option, none, some, some-injective, none-ne-some}
 use borrow.Author.Tests.{eq-eqb, ne_eqb, leb-true, leb-false, ltb-true, ltb-false, lt-ltb, le-ltb}
 use lib.Bits.{bit_and}
 use lib.Dec.{eqb, ltb, leb}
-use lib.ListN.{length, get_elem?, take, drop, get_or-eq_default}
+use lib.ListN.{length, get_or, get_elem?, take, drop, get_or-eq_default}
 use lib.Seq.{drop-drop, drop-nil}
-use Rattle.protocol.specs.Numbers.{word_end, done, unsound, no_room, bad_identifier}
-use Rattle.protocol.specs.Buffer.{put_at, over}
+use Rattle.std.proofs.Common.{Some, None}
+use Rattle.protocol.specs.declared.Refusal.{Refusal}
+use Rattle.protocol.specs.Refusal.{refusal_number, option_of}
+use Rattle.protocol.specs.Numbers.{word_end, done, no_room, bad_identifier}
+use Rattle.protocol.specs.Buffer.{over}
 use Rattle.protocol.specs.Tree.{Tree, Cell, is_live, live_of, numbered, places_from, property_in, cell_in, readable, reading}
 use Rattle.protocol.specs.Answer.{takes_sign}
 use Rattle.protocol.specs.Listed.{All}
 use Rattle.protocol.specs.Signed.{Number, number_of, word_for}
 use Rattle.protocol.proofs.TestLaws.{and_right, leb_same, if_both}
-use Rattle.protocol.proofs.BufferLaws.{length_put, put_put, over_put, over_nil}
+use Rattle.protocol.proofs.BufferLaws.{over_nil}
+use Rattle.protocol.proofs.RefusalLaws.{refusal_some}
 use Rattle.protocol.proofs.LoadLaws.{places_all}
 use Rattle.tree.specs.declared.record.Fields.{Fields}
 use Rattle.tree.specs.Lookup.{FieldsAre, numbers_of, places_in, NextIs}
 use Rattle.tree.proofs.RangeLaws.{sign_same}
 use Rattle.tree.proofs.NextLaws.{places_none, places_next}
-use Rattle.cells.specs.declared.Reading.TheVariants.{Word, Nothing}
 use Rattle.tree.specs.Seen.{seen}
 use Rattle.cells.specs.Cells.{cells_in}
-use Rattle.cells.specs.Lent.{is_lent, lent_number, reading_of}
-use Rattle.cells.proofs.CellLaws.{lent_refused}
-use Rattle.cells.proofs.ReadingLaws.{word_read, none_read}
+use Rattle.cells.specs.Lent.{is_lent, lent_number}
+use Rattle.cells.proofs.CellLaws.{lent_refused, refused_unsound}
+use Rattle.tree.proofs.FoundLaws.{found_at, found_none}
 use Rattle.buslink.specs.declared.indicator.Indicator.{Indicator}
 use Rattle.buslink.specs.Identifier.{is_station, is_indicator_type, identifier}
 use Rattle.buslink.specs.Indicator.{indicators, available, error, raw, blank, bytes_of}
@@ -127,36 +130,27 @@ module _ (t : Tree) (cs : List Cell) (k : ℕ) {f : Fields} (same : FieldsAre (p
   code_is : bit_and f.format 7 ≡ decimals (property_in t k)
   code_is = packing.lower f.format 3 ∙ ap (λ n. n % 2 ^ 3) same.format
 
-  pub probe_unready : Nothing ≡ reading_of (reading (property_in t k) (cell_in cs k))
+  pub probe_unready : None ≡ option_of (reading (property_in t k) (cell_in cs k))
       → record { value = 0; status = 0; format = bit_and f.format 7 } ≡ probe_indicator t cs k
   unfolding probe_indicator
-  probe_unready h = rw (none_read (reading (property_in t k) (cell_in cs k)) h, code_is)
+  probe_unready h = rw (found_none (reading (property_in t k) (cell_in cs k)) h, code_is)
 
-  pub probe_word : {w : ℕ} {signed : Bool} {i : Indicator} → Word w ≡ reading_of (reading (property_in t k) (cell_in cs k))
+  pub probe_word : {w : ℕ} {signed : Bool} {i : Indicator} → Some w ≡ option_of (reading (property_in t k) (cell_in cs k))
       → signed ≡ takes_sign (numbers_of f) → i ≡ valued (bit_and f.format 7) (scaled (bit_and f.format 7) (number_of signed w))
       → i ≡ probe_indicator t cs k
   unfolding probe_indicator
-  probe_word h s e = e ∙ rw (word_read (reading (property_in t k) (cell_in cs k)) h, code_is, s ∙ sign_same same)
+  probe_word h s e = e ∙ rw (found_at (reading (property_in t k) (cell_in cs k)) h, code_is, s ∙ sign_same same)
 
 -- A place past the last property shows nothing.
 pub shown_past : (t : Tree) (cs : List Cell) (k : ℕ) → length t.properties ≤ k → probe_indicator t cs k ≡ blank
 unfolding probe_indicator reading readable
 shown_past t cs k h = rw (get_or-eq_default t.properties _ h)
 
--- The live properties of a tree, passed one after the other.
-module _ (t : Tree) (before : ℕ) where
-  pub record Skipping (k passed : ℕ) : Type 0 where
-    pub within : passed ≤ before
-    pub at : ProbeAt t passed k
+-- The live properties of a tree, passed one after the other: the first, the one behind another, and none behind none.
+pub probe_first : (t : Tree) {k : ℕ} → NextIs is_live t 0 k → ProbeAt t 0 k
+unfolding places_in live_of
+probe_first t n = record { rest = sym n.same; live = n.is }
 
-  pub skip_begins : {k : ℕ} → NextIs is_live t 0 k → Skipping k 0
-  unfolding places_in live_of
-  skip_begins n = record { within = omega arith; at = record { rest = sym n.same; live = n.is } }
-
-  pub skip_ends : {k passed : ℕ} → Skipping k passed → before ≤ passed → ProbeAt t before k
-  skip_ends {k} s h = subst (λ n. ProbeAt t n k) (omega (arith, s.within, h)) s.at
-
--- The probe behind one, and none behind none.
 pub probe_next : (t : Tree) (n : ℕ) {k j : ℕ} → ProbeAt t n k → k < length t.properties → NextIs is_live t (k + 1) j → ProbeAt t (n + 1) j
 probe_next t n {k} {j} p h next =
     record {
@@ -180,10 +174,6 @@ probe_past t n m {k} l p h =
           ∙ ap (λ i. drop i (live_of t)) split;
       live = p.live;
     }
-
-pub skip_more : (t : Tree) (before : ℕ) {k j passed : ℕ} → Skipping t before k passed → passed < before → k < length t.properties
-    → NextIs is_live t (k + 1) j → Skipping t before j (passed + 1)
-skip_more t before s l h n = record { within = omega (arith, l); at = probe_next t _ s.at h n }
 
 -- What stands at a place of a list, by what is left of it there.
 module _ {A : Type 0} where
@@ -283,43 +273,45 @@ indicator_marked t cs n = go (numbered (probes_of t) n)
     go (some k) = probe_marked t cs k
 
 -- The eight bytes.
-pub data-put : (t : Tree) (cs : List Cell) (kind : ℕ) (a b : Indicator) (old : List ℕ) {mid new : List ℕ} → a ≡ indicator_of t cs (first_of kind)
-    → b ≡ indicator_of t cs (first_of kind + 1) → mid ≡ put_at 0 (bytes_of a) old → new ≡ put_at 4 (bytes_of b) mid → new ≡ over (data_of t cs kind) old
+pub data-joined : (t : Tree) (cs : List Cell) (kind : ℕ) {i j : Indicator} {x y : List ℕ} → i ≡ indicator_of t cs (first_of kind)
+    → j ≡ indicator_of t cs (first_of kind + 1) → x ≡ bytes_of i → y ≡ bytes_of j
+    → get_or x 0 0 ∷ get_or x 1 0 ∷ get_or x 2 0 ∷ get_or x 3 0 ∷ get_or y 0 0 ∷ get_or y 1 0 ∷ get_or y 2 0 ∷ get_or y 3 0 ∷ [] ≡ data_of t cs kind
 unfolding data_of bytes_of
-data-put t cs kind a b old e f g h =
-    h
-    ∙ ap (put_at 4 (bytes_of b)) g
-    ∙ put_put old 0 (bytes_of a) (bytes_of b) (omega arith)
-    ∙ over_put (bytes_of a ++ bytes_of b) old
-    ∙ ap₂ (λ i j. over (bytes_of i ++ bytes_of j) old) e f
+data-joined t cs kind e f g h = rw (g, h, e, f) refl
 
-pub room_behind : (i : Indicator) (old : List ℕ) {mid : List ℕ} → 8 ≤ length old → mid ≡ put_at 0 (bytes_of i) old → 4 + 4 ≤ length mid
-unfolding bytes_of
-room_behind i old h e = subst (λ n. 8 ≤ n) (sym (ap length e ∙ length_put old 0 (bytes_of i) (omega (arith, h)))) h
+pub data-length : (t : Tree) (cs : List Cell) (kind : ℕ) → length (data_of t cs kind) ≡ 8
+unfolding data_of bytes_of
+data-length t cs kind = refl
 
 -- A frame sent, or refused, by the tests of the code.
-module _ (tree cells : List ℕ) (base sub kind : ℕ) (old : List ℕ) {n i : ℕ} where
-  module _ {m : ℕ} (r : (n ≡ m) × (i ≡ 0)) where
-    unsent_as : {what : Sent} → what ≡ unsent m → Sends what old n i old
-    unsent_as e = rw e (record { number = r.0; identifier_is = r.1; bytes = sym (over_nil old) })
+module _ (tree cells : List ℕ) (base sub kind : ℕ) (old : List ℕ) where
+  unsent_as : (m : ℕ) {what : Sent} → what ≡ unsent m → Sends what old m 0 old
+  unsent_as m e = rw e (record { number = refl; identifier_is = refl; bytes = sym (over_nil old) })
 
-    pub unsent_broken : {c : ℕ} → c ≡ lent_number tree cells → (c ≡ done → ⊥) → m ≡ unsound → Sends (send_in tree cells base sub kind (length old)) old n i old
-    unfolding send_in
-    unsent_broken e h q = unsent_as (rw (lent_refused tree cells e h) (ap unsent (sym q)))
-
-    module _ (lent : is_lent tree cells ≡ true) where
-      pub unsent_short : length old < 8 → m ≡ no_room → Sends (send_in tree cells base sub kind (length old)) old n i old
-      unfolding send_in
-      unsent_short h q = unsent_as (rw (lent, lt-ltb (length old) 8 h) (ap unsent (sym q)))
-
-      pub unsent_other : 8 ≤ length old → (is_station base sub && is_indicator_type kind) ≡ false → m ≡ bad_identifier
-          → Sends (send_in tree cells base sub kind (length old)) old n i old
-      unfolding send_in
-      unsent_other h k q = unsent_as (rw (lent, le-ltb (length old) 8 h, k) (ap unsent (sym q)))
-
-  pub sent_frame : {new : List ℕ} → is_lent tree cells ≡ true → 8 ≤ length old → is_station base sub ≡ true → is_indicator_type kind ≡ true
-      → n ≡ done → i ≡ identifier base sub kind → new ≡ over (data_of (seen tree) (cells_in cells) kind) old
-      → Sends (send_in tree cells base sub kind (length old)) old n i new
+  pub unsent_broken : (e : Refusal) → refusal_number e ≡ lent_number tree cells → Sends (send_in tree cells base sub kind (length old)) old (refusal_number e) 0 old
   unfolding send_in
-  sent_frame lent h s k e f g =
-      rw (lent, le-ltb (length old) 8 h, s, k) (record { number = e; identifier_is = f; bytes = g })
+  unsent_broken e h =
+      unsent_as (refusal_number e)
+      (rw (lent_refused tree cells h (refusal_some e)) (ap unsent (sym (refused_unsound tree cells h (refusal_some e)))))
+
+  module _ (lent : is_lent tree cells ≡ true) where
+    pub unsent_short : length old < 8 → Sends (send_in tree cells base sub kind (length old)) old no_room 0 old
+    unfolding send_in
+    unsent_short h = unsent_as no_room (rw (lent, lt-ltb (length old) 8 h))
+
+    module _ (room : 8 ≤ length old) where
+      pub unsent_other : (is_station base sub && is_indicator_type kind) ≡ false
+          → Sends (send_in tree cells base sub kind (length old)) old bad_identifier 0 old
+      unfolding send_in
+      unsent_other k = unsent_as bad_identifier (rw (lent, le-ltb (length old) 8 room, k))
+
+      pub sent_frame : is_station base sub ≡ true → is_indicator_type kind ≡ true → {i : ℕ} {ys : List ℕ} → i ≡ identifier base sub kind
+          → ys ≡ data_of (seen tree) (cells_in cells) kind → Sends (send_in tree cells base sub kind (length old)) old done i (ys ++ drop 8 old)
+      unfolding send_in over
+      sent_frame s k f e =
+          rw (lent, le-ltb (length old) 8 room, s, k)
+          (record {
+            number = refl;
+            identifier_is = f;
+            bytes = ap₂ (λ ys n. ys ++ drop n old) e (sym (data-length (seen tree) (cells_in cells) kind));
+          })

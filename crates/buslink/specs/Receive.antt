@@ -1,10 +1,11 @@
 -- 02, section 5: what a station's receiver stores and says. The table in lent bytes is docs/FORMATS.md, Buslink records.
-use Rattle.std.specs.Prelude.{ℕ, ◌+◌, ◌-◌, ◌*◌, ◌^◌, ◌≡◌, Bool, cond, ◌&&◌, List, length, get_or, take, drop, set, eqb, leb}
+use Rattle.std.specs.Prelude.{ℕ, Result, Ok, Err, ◌+◌, ◌-◌, ◌*◌, ◌^◌, ◌≡◌, Bool, cond, ◌&&◌, List, length, get_or, take, drop, set, eqb, leb}
 use Rattle.protocol.specs.Numbers.{done, unsound, bad_identifier, bad_length}
 use Rattle.protocol.specs.Buffer.{put_at}
 use Rattle.tree.specs.Seen.{records_from}
 use Rattle.buslink.specs.declared.indicator.Indicator.{Indicator}
-use Rattle.buslink.specs.declared.table.Told.{Told}
+use Rattle.protocol.specs.declared.Refusal.{Refusal}
+use Rattle.protocol.specs.Refusal.{refusal_number}
 use Rattle.buslink.specs.Identifier.{is_station, is_for, type_in, last_type}
 use Rattle.buslink.specs.Indicator.{indicators, indicator_size, blank, indicator_in, is_usable}
 use Rattle.buslink.specs.Send.{first_of}
@@ -60,6 +61,11 @@ module _ {A : Type 0} where
     pub usable_is : usable ≡ what.usable
     pub records : new ≡ what.records
 
+-- Which indicators a receiver tells of: none on a refusal.
+abbrev pub usable_told : Result ℕ Refusal → ℕ
+usable_told (Ok usable) = usable
+usable_told (Err e) = 0
+
 -- The records as a list, one for each of the 15 indicators.
 unfoldable pub receive_list : ℕ → ℕ → ℕ → List ℕ → List Indicator → Receipt (List Indicator)
 receive_list base sub i payload rs =
@@ -85,6 +91,11 @@ unfoldable pub receive_table : ℕ → ℕ → ℕ → List ℕ → List ℕ →
 receive_table base sub i payload table =
     received (is_table table) base sub i payload (stored_in (type_in i) payload table) table
 
+-- What a table tells of an indicator: with any number but 0, nothing.
+pub record Told : Type 0 where
+  pub number : ℕ
+  pub indicator : Indicator
+
 -- An indicator asked for by its number: 1, 19 where it is not 1 to 15, or 0 with what its record holds.
 abbrev pub untold : ℕ → Told
 untold n = record { number = n; indicator = blank }
@@ -96,3 +107,8 @@ told_in table n =
     (record { number = done; indicator = get_or (records_in table) (n - 1) blank })
     (untold bad_identifier))
     (untold unsound)
+
+-- The same of what code tells.
+abbrev pub told_of : Result Indicator Refusal → Told
+told_of (Ok i) = record { number = done; indicator = i }
+told_of (Err e) = untold (refusal_number e)

@@ -1,6 +1,7 @@
 -- 02, section 5: what a station sends.
-use Rattle.std.specs.Prelude.{ℕ, ◌+◌, ◌-◌, ◌*◌, ◌%◌, ◌^◌, ◌≡◌, Bool, cond, ◌&&◌, List, [], ◌++◌, take, eqb, ltb, leb}
+use Rattle.std.specs.Prelude.{ℕ, Result, Ok, Err, ◌+◌, ◌-◌, ◌*◌, ◌%◌, ◌^◌, ◌≡◌, Bool, cond, ◌&&◌, List, [], ◌++◌, take, eqb, ltb, leb}
 use Rattle.std.proofs.Math.Option.{Option, none, some}
+use Rattle.protocol.specs.declared.Refusal.{Refusal}
 use Rattle.protocol.specs.Numbers.{done, unsound, no_room, bad_identifier}
 use Rattle.protocol.specs.Buffer.{over}
 use Rattle.protocol.specs.Tree.{Property, Tree, Cell, live_of, numbered, property_in, cell_in, reading}
@@ -87,3 +88,8 @@ pub record Sends (what : Sent) (old : List ℕ) (n identifier : ℕ) (new : List
   pub number : n ≡ what.number
   pub identifier_is : identifier ≡ what.identifier
   pub bytes : new ≡ over what.payload old
+
+-- The identifier that a call tells: 0 on a refusal.
+abbrev pub identifier_told : Result ℕ Refusal → ℕ
+identifier_told (Ok i) = i
+identifier_told (Err e) = 0

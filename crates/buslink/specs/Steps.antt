@@ -1,15 +1,18 @@
 -- No public promise is stated by these definitions: they follow the code step by step.
-use Rattle.std.specs.Prelude.{ℕ, ◌+◌, ◌*◌, ◌<◌, ◌≡◌, Bool, true, false, cond, not, ◌&&◌, List, length, drop, eqb}
-use Rattle.protocol.specs.Numbers.{done}
+use Rattle.std.specs.Prelude.{ℕ, Result, Ok, Err, IfOk, take, ◌*◌, ◌<◌, ◌≡◌, Bool, true, false, cond, not, ◌&&◌, List, length, drop, eqb}
+use Rattle.protocol.specs.declared.Refusal.{Refusal}
+use Rattle.protocol.specs.declared.Refusal.TheVariants.{BadIdentifier}
+use Rattle.protocol.specs.Refusal.{number_told}
 use Rattle.protocol.specs.Bytes.{bit}
 use Rattle.protocol.specs.Tree.{Tree, is_live, live_of, property_in}
 use Rattle.protocol.specs.Signed.{Number}
 use Rattle.tree.specs.Lookup.{places_in}
-use Rattle.buslink.specs.declared.receive.Judged.{Judged}
-use Rattle.buslink.specs.declared.records.Plan.{Plan}
-use Rattle.buslink.specs.Identifier.{type_in, last_type}
-use Rattle.buslink.specs.Indicator.{raw, indicators, indicator_size, bit_available, bit_error, blank}
-use Rattle.buslink.specs.Receive.{receipt_number, usable_of, place_of, first_in, second_in}
+use Rattle.buslink.specs.declared.identifier.FrameType.{FrameType}
+use Rattle.buslink.specs.declared.identifier.Station.{Station}
+use Rattle.buslink.specs.declared.receive.Taken.{Taken}
+use Rattle.buslink.specs.Identifier.{is_station, is_indicator_type, is_for, type_in, last_type}
+use Rattle.buslink.specs.Indicator.{raw, indicator_size, bit_available, bit_error}
+use Rattle.buslink.specs.Receive.{receipt_number}
 
 abbrev pub sized : Bool → ℕ → Number
 sized below size = record { below = below; size = size }
@@ -30,32 +33,24 @@ usable_byte d = bit bit_available d && not (bit bit_error d)
 abbrev pub usable_bit : ℕ → ℕ
 usable_bit d = cond (usable_byte d) 1 0
 
--- How many bytes of a frame's data hold indicators.
-abbrev pub carried_size : ℕ → ℕ
-carried_size kind = cond (eqb kind last_type) indicator_size 8
+-- The part of a frame's data that holds indicators.
+abbrev pub carried : ℕ → List ℕ → List ℕ
+carried kind payload = cond (eqb kind last_type) (take indicator_size payload) payload
+
+-- The type with a number, the station with two addresses, and the type of a frame with an identifier of a station's: or none.
+abbrev pub IsType : ℕ → Result FrameType Refusal → Type 0
+IsType n (Ok kind) = kind.number ≡ n
+IsType n (Err e) = (is_indicator_type n ≡ false) × (e ≡ BadIdentifier)
+
+abbrev pub IsStation : ℕ → ℕ → Result Station Refusal → Type 0
+IsStation base sub (Ok s) = (s.base ≡ base) × (s.sub ≡ sub)
+IsStation base sub (Err e) = (is_station base sub ≡ false) × (e ≡ BadIdentifier)
+
+abbrev pub IsOwn : ℕ → ℕ → ℕ → Result FrameType Refusal → Type 0
+IsOwn base sub i (Ok kind) = (is_for base sub i ≡ true) × (kind.number ≡ type_in i)
+IsOwn base sub i (Err e) = (is_for base sub i ≡ false) × (e ≡ BadIdentifier)
 
 -- A frame judged.
-pub record JudgedIs (formed : Bool) (base sub i : ℕ) (payload : List ℕ) (r : Judged) : Type 0 where
-  pub number : r.number ≡ receipt_number formed base sub i payload
-  pub kind : r.number ≡ done → r.kind ≡ type_in i
-
--- What a frame asks a receiver with so many records to do.
-abbrev pub refusal : ℕ → Plan
-refusal n = record { refused = true; receipt = record { number = n; usable = 0 }; at = 0; then = 0; first = blank; second = blank }
-
-abbrev pub accepted : ℕ → List ℕ → Plan
-accepted kind payload =
-    record {
-      refused = false;
-      receipt = record { number = done; usable = usable_of kind payload };
-      at = place_of kind;
-      then = cond (eqb kind last_type) (place_of kind) (place_of kind + 1);
-      first = first_in payload;
-      second = cond (eqb kind last_type) (first_in payload) (second_in payload);
-    }
-
-unfoldable pub plan_of : ℕ → ℕ → ℕ → ℕ → List ℕ → Plan
-plan_of count base sub i payload =
-    cond (eqb (receipt_number (eqb count indicators) base sub i payload) done)
-    (accepted (type_in i) payload)
-    (refusal (receipt_number (eqb count indicators) base sub i payload))
+pub record JudgedIs (formed : Bool) (base sub i : ℕ) (payload : List ℕ) (r : Result Taken Refusal) : Type 0 where
+  pub number : number_told r ≡ receipt_number formed base sub i payload
+  pub frame : IfOk r (λ f. (f.kind.number ≡ type_in i) × (f.payload.now ≡ payload))

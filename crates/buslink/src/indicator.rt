@@ -1,6 +1,5 @@
 // An indicator: its four bytes put together and taken apart.
-ghost use Rattle.std.specs.Prelude.{◌≡◌, [], ◌∷◌, ◌+◌, ◌*◌, ◌%◌, ◌^◌, ◌<◌, ◌≤◌, length};
-ghost use Rattle.protocol.specs.Buffer.{put_at};
+ghost use Rattle.std.specs.Prelude.{◌≡◌, ◌+◌, ◌%◌, ◌^◌, ◌<◌, ◌≤◌, length};
 ghost use Rattle.buslink.specs.Indicator as rule;
 ghost use Rattle.buslink.specs.Indicator.{bytes_of, indicator_in};
 ghost use Rattle.buslink.specs.Steps.{usable_byte};
@@ -21,33 +20,11 @@ pub(crate) const ERROR: u8 = 0x40;
 pub(crate) const RAW: u8 = 7;
 
 // An indicator without a probe.
-pub(crate) fn blank() -> Indicator
-    ensures { result ≡ rule.blank }
-{
-    Indicator {
-        value: 0,
-        status: 0,
-        format: 0,
-    }
-}
-
-// An indicator put at a place of an output, in four bytes.
-pub(crate) fn put(i: Indicator, out: &mut [u8], at: usize)
-    requires { (at + 4 ≤ length out.old) × ((i.status % 2 ^ 3 ≡ 0) × (i.format < 2 ^ 3)) }
-    ensures { out.new ≡ put_at at (bytes_of i) out.old }
-{
-    out[at] = (i.value & 255) as u8;
-    out[at + 1] = ((i.value >> 8) & 255) as u8;
-    out[at + 2] = ((i.value >> 16) & 255) as u8;
-    out[at + 3] = i.status | i.format;
-}
-
-// Three bytes as a number, the lowest first.
-fn low_first(a: u8, b: u8, c: u8) -> u32
-    ensures { result ≡ a + b * 2 ^ 8 + c * 2 ^ 16 }
-{
-    a as u32 | (b as u32) << 8 | (c as u32) << 16
-}
+pub(crate) const BLANK: Indicator = Indicator {
+    value: 0,
+    status: 0,
+    format: 0,
+};
 
 // 24 bits as a word: where the sign bit is set, so are all bits above it.
 fn extended(v: u32) -> u32
@@ -60,14 +37,27 @@ fn extended(v: u32) -> u32
     0xFF << 24 | v
 }
 
-// The indicator in four bytes.
-pub(crate) fn of_bytes(a: u8, b: u8, c: u8, d: u8) -> Indicator
-    ensures { result ≡ indicator_in (a ∷ b ∷ c ∷ d ∷ []) }
-{
-    Indicator {
-        value: extended(low_first(a, b, c)),
-        status: d & 0xF8,
-        format: d & 7,
+impl Indicator {
+    // The four bytes of an indicator.
+    pub(crate) fn to_bytes(self) -> [u8; 4]
+        requires status { self.status % 2 ^ 3 ≡ 0 }
+        requires format { self.format < 2 ^ 3 }
+        ensures { result ≡ bytes_of self }
+    {
+        let [low, middle, high, _] = self.value.to_le_bytes();
+        [low, middle, high, self.status | self.format]
+    }
+
+    // The indicator in the four bytes at the front of some bytes.
+    pub(crate) fn from_bytes(bs: &[u8]) -> Indicator
+        requires { 4 ≤ length bs.now }
+        ensures { result ≡ indicator_in bs.now }
+    {
+        Indicator {
+            value: extended(u32::from_le_bytes([bs[0], bs[1], bs[2], 0])),
+            status: bs[3] & 0xF8,
+            format: bs[3] & 7,
+        }
     }
 }
 

@@ -5,7 +5,7 @@
 mod identifier;
 pub mod indicator;
 mod probe;
-pub mod receive;
+mod receive;
 pub mod records;
 pub mod send;
 pub mod table;

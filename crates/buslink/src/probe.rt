@@ -7,8 +7,8 @@ ghost use Rattle.cells.specs.Cells.{cells_in};
 ghost use Rattle.buslink.specs.Send.{scaled, fits, valued, probe_indicator};
 ghost use Rattle.buslink.specs.Steps.{sized, times, ProbeAt};
 
-use super::indicator::{AVAILABLE, ERROR, Indicator, RAW};
-use cells::{Reading, cell};
+use super::indicator::{AVAILABLE, BLANK, ERROR, Indicator, RAW};
+use cells::cell;
 use tree::{live, range, record};
 
 // Whether a word is that of a number below zero.
@@ -83,14 +83,13 @@ pub(crate) fn indicator_at(tree: &[u8], cells: &[u8], place: usize) -> Indicator
 {
     let f = record::read_fields(tree, place);
     let code = (f.format & 7) as u8;
-    let Reading::Word(w) = cell::reading(tree, cells, place) else {
-        return Indicator {
-            value: 0,
-            status: 0,
+    match cell::reading(tree, cells, place) {
+        Some(w) => of_word(code, range::takes_sign(f), w),
+        None => Indicator {
             format: code,
-        };
-    };
-    of_word(code, range::takes_sign(f), w)
+            ..BLANK
+        },
+    }
 }
 
 // The place of the live property with so many before it; behind the last property where there is none.
@@ -99,13 +98,11 @@ pub(crate) fn place_after(tree: &[u8], before: usize) -> usize
 {
     let count = record::property_count(tree);
     let mut k = live::next(tree, 0);
-    let mut passed = 0;
-    while passed < before {
+    for _passed in 0..before {
         if count <= k {
             return k;
         }
         k = live::next(tree, k + 1);
-        passed += 1;
     }
     k
 }

@@ -1,72 +1,76 @@
 // A frame received: whether a station takes it, and which of its indicators are usable.
-ghost use Rattle.std.specs.Prelude.{◌≡◌, true, length};
-ghost use Rattle.buslink.specs.Identifier.{is_indicator_type};
-ghost use Rattle.buslink.specs.Receive.{usable_of};
-ghost use Rattle.buslink.specs.Steps.{JudgedIs, usable_bit};
+ghost use Rattle.std.specs.Prelude.{◌≡◌, length};
 
-use super::{DATA_SIZE, LAST_TYPE, identifier, indicator};
-use protocol::{BAD_IDENTIFIER, BAD_LENGTH, DONE, UNSOUND};
+use super::identifier::{FrameType, Station};
+use super::indicator::Indicator;
+use super::{DATA_SIZE, INDICATOR_SIZE, indicator};
+use protocol::Refusal;
 
-// What a receipt came to: the number, and which of the indicators that the frame carried are usable, bit n - 1 for indicator n. On
-// a refusal that is 0.
-#[derive(Drop)]
-pub struct Receipt {
-    pub number: u8,
-    pub usable: u16,
+// A frame that a station takes: its type and its data.
+#[derive(Clone, Copy)]
+pub(crate) struct Taken<'a> {
+    pub kind: FrameType,
+    pub payload: &'a [u8],
+    ghost whole: { length payload.now ≡ 8 },
 }
 
-// The number of a receipt, and with 0 the frame's type.
-#[derive(Drop)]
-pub(crate) struct Judged {
-    pub number: u8,
-    pub kind: u8,
-}
+impl<'a> Taken<'a> {
+    ghost use Rattle.buslink.specs.Receive.{first_in, second_in, usable_of};
+    ghost use Rattle.buslink.specs.Steps.{JudgedIs, carried};
 
-// A frame judged, for records that have a form or none.
-pub(crate) fn judge(formed: bool, base: u8, sub: u8, id: u32, payload: &[u8]) -> Judged
-    ensures { JudgedIs formed base sub id payload.now result }
-{
-    if !formed {
-        return Judged {
-            number: UNSOUND,
-            kind: 0,
-        };
+    // A frame judged, for records that have a form or none: 1, 19, 20 or 0.
+    pub(crate) fn judge(
+        formed: bool,
+        base: u8,
+        sub: u8,
+        id: u32,
+        payload: &'a [u8],
+    ) -> Result<Taken<'a>, Refusal>
+        ensures { JudgedIs formed base sub id payload.now result }
+    {
+        if !formed {
+            return Err(Refusal::Unsound);
+        }
+        let kind = Station::at(base, sub)?.type_for(id)?;
+        if payload.len() != DATA_SIZE {
+            return Err(Refusal::BadLength);
+        }
+        Ok(Taken { kind, payload })
     }
-    let kind = identifier::type_for(base, sub, id);
-    if kind == 0 {
-        return Judged {
-            number: BAD_IDENTIFIER,
-            kind: 0,
-        };
-    }
-    if payload.len() != DATA_SIZE {
-        return Judged {
-            number: BAD_LENGTH,
-            kind: 0,
-        };
-    }
-    Judged { number: DONE, kind }
-}
 
-// 1 where an indicator with this fourth byte is usable, else 0.
-fn usable_bit(d: u8) -> u16
-    ensures { result ≡ usable_bit d }
-{
-    if indicator::is_usable(d) {
-        return 1;
+    // The part of its data that holds indicators.
+    pub(crate) fn carried(self) -> &'a [u8]
+        ensures { result.now ≡ carried self.entry.kind.number self.entry.payload.now }
+    {
+        if self.kind.is_last() {
+            return &self.payload[..INDICATOR_SIZE];
+        }
+        self.payload
     }
-    0
-}
 
-// Which of the indicators that a frame of a type carries are usable.
-pub(crate) fn usable_of(kind: u8, payload: &[u8]) -> u16
-    requires { (is_indicator_type kind ≡ true) × (length payload.now ≡ 8) }
-    ensures { result ≡ usable_of kind payload.now }
-{
-    let place = 2 * (kind as u32) - 4;
-    let first = usable_bit(payload[3]);
-    if kind == LAST_TYPE {
-        return first << place;
+    // Its indicators. (The last type has no second.)
+    pub(crate) fn first(self) -> Indicator
+        ensures { result ≡ first_in self.entry.payload.now }
+    {
+        Indicator::from_bytes(self.payload)
     }
-    (usable_bit(payload[7]) << 1 | first) << place
+
+    pub(crate) fn second(self) -> Indicator
+        ensures { result ≡ second_in self.entry.payload.now }
+    {
+        Indicator::from_bytes(&self.payload[INDICATOR_SIZE..])
+    }
+
+    // Which of its indicators are usable, bit n - 1 for indicator n.
+    pub(crate) fn usable(self) -> u16
+        ensures { result ≡ usable_of self.entry.kind.number self.entry.payload.now }
+    {
+        let place = self.kind.place();
+        let first = u16::from(indicator::is_usable(self.payload[3]));
+        if self.kind.is_last() {
+            return first << place;
+        }
+        let second = u16::from(indicator::is_usable(self.payload[7]));
+        (second << 1 | first) << place
+    }
 }

@@ -10,12 +10,12 @@ use Rattle.buslink.proofs.probe.indicator_at.Goals as goal
 pub overflow_cast-code : goal.overflow_cast-code
 overflow_cast-code c = record { fits = omega (arith, mask_lt c.read_fields-f.result.format 3) }
 
-pub returns-in_default : goal.returns-in_default
-returns-in_default c =
-    probe_unready (seen c.args.tree.now) (cells_in c.args.cells.now) c.args.place c.read_fields-f.ensures
-    (sym c.in_default.is ∙ c.reading.ensures)
-
-pub returns : goal.returns
-returns c =
+pub returns-in-Some : goal.returns-in-Some
+returns-in-Some c =
     probe_word (seen c.args.tree.now) (cells_in c.args.cells.now) c.args.place c.read_fields-f.ensures
-    (sym c.in-Word.is ∙ c.reading.ensures) c.takes_sign.ensures c.of_word.ensures
+    (sym c.in-Some.is ∙ c.reading.ensures) c.takes_sign.ensures c.of_word.ensures
+
+pub returns-in-None : goal.returns-in-None
+returns-in-None c =
+    probe_unready (seen c.args.tree.now) (cells_in c.args.cells.now) c.args.place c.read_fields-f.ensures
+    (sym c.in-None.is ∙ c.reading.ensures)

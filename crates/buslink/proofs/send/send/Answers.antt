@@ -1,60 +1,63 @@
 -- `buslink::send::send` meets its contract. Assumes nothing.
 use mathlib.Core.Path.{◌≡◌, refl, sym, ap, ap₂, ◌∙◌}
 use mathlib.Core.Bool.{true, ◌&&◌}
+use Rattle.std.proofs.lemmas.Result.{err_from_is_err_and}
+use Rattle.protocol.specs.Refusal.{number_told}
+use Rattle.tree.specs.Seen.{seen}
+use Rattle.cells.specs.Cells.{cells_in}
 use Rattle.cells.specs.Lent.{is_lent}
 use Rattle.cells.proofs.CellLaws.{lent_done}
-use Rattle.buslink.specs.Identifier.{is_station, is_indicator_type}
+use Rattle.buslink.specs.Identifier.{is_station, is_indicator_type, identifier}
+use Rattle.buslink.specs.Send.{data_of}
 use Rattle.buslink.proofs.SendLaws.{unsent_broken, unsent_short, unsent_other, sent_frame}
 use Rattle.buslink.proofs.send.send.Goals as goal
-use Rattle.buslink.proofs.send.send.Goals.{Else-check-ne-DONE, Else-not-is_indicator_type, Else-not-is_station}
+use Rattle.buslink.proofs.send.send.Goals.{In_ok-check, In_ok-station, In_ok-kind}
 
-lent : (c : Else-check-ne-DONE) → let args = c.args in is_lent args.tree.now args.cells.now ≡ true
-lent c =
-    let args = c.args in lent_done args.tree.now args.cells.now c.check.ensures c.if-check-ne-DONE.false
+lent : (c : In_ok-check) → is_lent c.args.tree.now c.args.cells.now ≡ true
+lent c = lent_done c.args.tree.now c.args.cells.now (sym (ap number_told c.in_ok-check.was) ∙ c.check.ensures) refl
 
-is-its : (c : Else-not-is_station) → let args = c.args in is_station args.base args.sub ≡ true
-is-its c =
-    sym c.is_station.ensures ∙ c.if-not-is_station.false
+its : (c : In_ok-station) → is_station c.args.base c.args.sub ≡ true
+its c = let s = c.in_ok-station.station in sym (ap₂ is_station c.in_ok-station.ensures.0 c.in_ok-station.ensures.1) ∙ s.addressed
 
-carries : (c : Else-not-is_indicator_type) → let args = c.args in is_indicator_type args.kind ≡ true
-carries c =
-    sym c.is_indicator_type.ensures ∙ c.if-not-is_indicator_type.false
+carries : (c : In_ok-kind) → is_indicator_type c.args.kind ≡ true
+carries c = sym (ap is_indicator_type c.in_ok-kind.ensures) ∙ c.in_ok-kind.kind.carries
 
-pub returns-then-check-ne-DONE : goal.returns-then-check-ne-DONE
-returns-then-check-ne-DONE c =
+pub returns-in_err-check : goal.returns-in_err-check
+returns-in_err-check c =
     let args = c.args in
-    unsent_broken args.tree.now args.cells.now args.base args.sub args.kind args.out.now c.refused.ensures
-    c.check.ensures c.if-check-ne-DONE.true refl
+    let p = err_from_is_err_and c.from_residual.result c.from_residual.ensures.1 in
+    rw (p.1, p.2) (unsent_broken args.tree.now args.cells.now args.base args.sub args.kind args.out.now _ c.in_err-check.ensures)
 
 pub returns-then-out-lt-DATA_SIZE : goal.returns-then-out-lt-DATA_SIZE
 returns-then-out-lt-DATA_SIZE c =
     let args = c.args in
-    unsent_short args.tree.now args.cells.now args.base args.sub args.kind args.out.now c.refused-then-out-lt-DATA_SIZE.ensures
-    (lent (goal.at.returns-then-out-lt-DATA_SIZE c).Else-check-ne-DONE) c.if-out-lt-DATA_SIZE.true refl
+    unsent_short args.tree.now args.cells.now args.base args.sub args.kind args.out.now (lent (goal.at.returns-then-out-lt-DATA_SIZE c).In_ok-check)
+    c.if-out-lt-DATA_SIZE.true
 
-pub returns-then-not-is_station : goal.returns-then-not-is_station
-returns-then-not-is_station c =
+pub returns-in_err-station : goal.returns-in_err-station
+returns-in_err-station c =
     let args = c.args in
-    unsent_other args.tree.now args.cells.now args.base args.sub args.kind args.out.now c.refused-then-not-is_station.ensures
-    (lent (goal.at.returns-then-not-is_station c).Else-check-ne-DONE) c.if-out-lt-DATA_SIZE.false
-    (ap (λ t. t && is_indicator_type args.kind) (sym c.is_station.ensures ∙ c.if-not-is_station.true)) refl
+    let told = c.in_err-station.ensures in
+    let p = err_from_is_err_and c.from_residual-in_err-station.result c.from_residual-in_err-station.ensures.1 in
+    rw (p.1, p.2, told.1)
+    (unsent_other args.tree.now args.cells.now args.base args.sub args.kind args.out.now (lent (goal.at.returns-in_err-station c).In_ok-check)
+    c.if-out-lt-DATA_SIZE.false (ap (λ t. t && is_indicator_type args.kind) told.0))
 
-pub returns-then-not-is_indicator_type : goal.returns-then-not-is_indicator_type
-returns-then-not-is_indicator_type c =
+pub returns-in_err-kind : goal.returns-in_err-kind
+returns-in_err-kind c =
     let args = c.args in
-    unsent_other args.tree.now args.cells.now args.base args.sub args.kind args.out.now c.refused-then-not-is_indicator_type.ensures
-    (lent (goal.at.returns-then-not-is_indicator_type c).Else-check-ne-DONE) c.if-out-lt-DATA_SIZE.false
-    (ap₂ ◌&&◌ (is-its (goal.at.returns-then-not-is_indicator_type c).Else-not-is_station) (sym c.is_indicator_type.ensures ∙ c.if-not-is_indicator_type.true)) refl
-
-pub put_data-requires : goal.put_data-requires
-put_data-requires c = (carries (goal.at.put_data-requires c).Else-not-is_indicator_type, c.if-out-lt-DATA_SIZE.false)
-
-pub identifier_of-requires : goal.identifier_of-requires
-identifier_of-requires c =
-    (is-its (goal.at.identifier_of-requires c).Else-not-is_station, carries (goal.at.identifier_of-requires c).Else-not-is_indicator_type)
+    let told = c.in_err-kind.ensures in
+    let p = err_from_is_err_and c.from_residual-in_err-kind.result c.from_residual-in_err-kind.ensures.1 in
+    rw (p.1, p.2, told.1)
+    (unsent_other args.tree.now args.cells.now args.base args.sub args.kind args.out.now (lent (goal.at.returns-in_err-kind c).In_ok-check)
+    c.if-out-lt-DATA_SIZE.false (ap₂ ◌&&◌ (its (goal.at.returns-in_err-kind c).In_ok-station) told.0))
 
 pub returns : goal.returns
 returns c =
     let args = c.args in
-    sent_frame args.tree.now args.cells.now args.base args.sub args.kind args.out.now (lent (goal.at.returns c).Else-check-ne-DONE) c.if-out-lt-DATA_SIZE.false
-    (is-its (goal.at.returns c).Else-not-is_station) (carries (goal.at.returns c).Else-not-is_indicator_type) refl c.identifier_of.ensures c.put_data.ensures
+    let station = c.in_ok-station.ensures in
+    let kind = c.in_ok-kind.ensures in
+    sent_frame args.tree.now args.cells.now args.base args.sub args.kind args.out.now (lent (goal.at.returns c).In_ok-check)
+    c.if-out-lt-DATA_SIZE.false (its (goal.at.returns c).In_ok-station) (carries (goal.at.returns c).In_ok-kind)
+    (c.identifier.ensures ∙ ap₂ (λ b s. identifier b s c.in_ok-kind.kind.number) station.0 station.1 ∙ ap (identifier args.base args.sub) kind)
+    (c.copy_from_slice.ensures.after ∙ c.data_of.ensures ∙ ap (data_of (seen args.tree.now) (cells_in args.cells.now)) kind)
