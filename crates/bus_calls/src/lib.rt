@@ -16,16 +16,13 @@
 ghost use Rattle.protocol.specs.Bytes.{word};
 ghost use Rattle.protocol.specs.Buffer.{Put, fitting};
 
-use buslink::indicator::Indicator;
-use buslink::{INDICATORS, records, send, table};
-use frame::{Written, buffer};
-use protocol::DONE;
-
-// Stands for the length where a kind is not known.
-pub const UNKNOWN: usize = usize::MAX;
+use buslink::indicator::{BLANK, Indicator};
+use buslink::{records, send, table};
+use frame::buffer;
+use protocol::{DONE, Refusal};
 
 // A station, the type of a frame or the number of an indicator, and an identifier.
-#[derive(Drop)]
+#[derive(Clone, Copy)]
 pub struct Bus {
     pub base: u8,
     pub sub: u8,
@@ -33,56 +30,53 @@ pub struct Bus {
     pub identifier: u32,
 }
 
+// What a call comes to: its number, and how many bytes it put.
+#[derive(Clone, Copy)]
+pub struct Answer {
+    pub number: u8,
+    pub len: usize,
+}
+
+impl Answer {
+    // Of a call that was refused or not.
+    pub fn of(refusal: Option<Refusal>, len: usize) -> Answer {
+        Answer {
+            number: refusal.map_or(DONE, u8::from),
+            len,
+        }
+    }
+}
+
 // A number of 32 bits, put at a place of an output, the high byte first. Returns the next place.
 pub fn put_word(n: u32, out: &mut [u8], at: usize) -> usize
     ensures { Put at (fitting at (word n) out.old) out.old result out.new }
 {
-    let bytes = [
-        (n / 16777216 % 256) as u8,
-        (n / 65536 % 256) as u8,
-        (n / 256 % 256) as u8,
-        (n % 256) as u8,
-    ];
-    buffer::put_all(&bytes, out, at)
+    buffer::put_all(&word::bytes_of(n), out, at)
 }
 
 // The data of the frame that is sent.
-fn data(b: Bus, tree: &[u8], cells: &[u8], out: &mut [u8]) -> Written {
+fn data(b: Bus, tree: &[u8], cells: &[u8], out: &mut [u8]) -> Answer {
     let sent = send::send(tree, cells, b.base, b.sub, b.index, out);
-    if sent.number == DONE {
-        return Written {
-            number: DONE,
-            len: buslink::DATA_SIZE,
-        };
-    }
-    Written {
-        number: sent.number,
-        len: 0,
-    }
+    let len = if sent.is_ok() { buslink::DATA_SIZE } else { 0 };
+    Answer::of(sent.err(), len)
 }
 
-fn identifier(b: Bus, tree: &[u8], cells: &[u8], out: &mut [u8]) -> Written {
+fn identifier(b: Bus, tree: &[u8], cells: &[u8], out: &mut [u8]) -> Answer {
     let sent = send::send(tree, cells, b.base, b.sub, b.index, out);
-    Written {
-        number: sent.number,
-        len: put_word(sent.identifier, out, 0),
-    }
+    Answer::of(sent.err(), put_word(sent.unwrap_or(0), out, 0))
 }
 
-fn receive(b: Bus, string: &[u8], lent: &mut [u8], out: &mut [u8]) -> Written {
-    let receipt = table::receive(lent, b.base, b.sub, b.identifier, string);
-    Written {
-        number: receipt.number,
-        len: buffer::put_all(lent, out, 0),
-    }
+fn receive(b: Bus, string: &[u8], lent: &mut [u8], out: &mut [u8]) -> Answer {
+    let usable = table::receive(lent, b.base, b.sub, b.identifier, string);
+    Answer::of(usable.err(), buffer::put_all(lent, out, 0))
 }
 
-fn usable(b: Bus, string: &[u8], lent: &mut [u8], out: &mut [u8]) -> Written {
-    let receipt = table::receive(lent, b.base, b.sub, b.identifier, string);
-    Written {
-        number: receipt.number,
-        len: put_word(receipt.usable as u32, out, 0),
-    }
+fn usable(b: Bus, string: &[u8], lent: &mut [u8], out: &mut [u8]) -> Answer {
+    let usable = table::receive(lent, b.base, b.sub, b.identifier, string);
+    Answer::of(
+        usable.err(),
+        put_word(u32::from(usable.unwrap_or(0)), out, 0),
+    )
 }
 
 // An indicator put at a place of an output: its value, status and format. Returns the next place.
@@ -93,47 +87,32 @@ fn put_indicator(i: Indicator, out: &mut [u8], at: usize) -> usize {
 
 // The records of a table as a list of them.
 fn records_of(lent: &[u8]) -> [Indicator; 15] {
-    let blank = Indicator {
-        value: 0,
-        status: 0,
-        format: 0,
-    };
-    let mut rs = [blank; 15];
-    let mut i = 0;
-    while i < INDICATORS {
-        let told = table::indicator_of(lent, i as u8 + 1);
-        let record = told.indicator;
-        rs[i] = record;
-        i += 1;
+    let mut rs = [BLANK; 15];
+    for (i, record) in rs.iter_mut().enumerate() {
+        *record = table::indicator_of(lent, i as u8 + 1).unwrap_or(BLANK);
     }
     rs
 }
 
 // The number is the table's: the list of records tells none.
-fn receive_list(b: Bus, string: &[u8], lent: &mut [u8], out: &mut [u8]) -> Written {
+fn receive_list(b: Bus, string: &[u8], lent: &mut [u8], out: &mut [u8]) -> Answer {
     let rs = records::received(records_of(lent), b.base, b.sub, b.identifier, string);
     let mut len = 0;
-    let mut i = 0;
-    while i < INDICATORS {
-        let record = rs[i];
-        len = put_indicator(record, out, len);
-        i += 1;
+    for record in rs.iter() {
+        len = put_indicator(*record, out, len);
     }
-    Written {
-        number: table::receive(lent, b.base, b.sub, b.identifier, string).number,
+    Answer::of(
+        table::receive(lent, b.base, b.sub, b.identifier, string).err(),
         len,
-    }
+    )
 }
 
-fn ask(b: Bus, lent: &[u8], out: &mut [u8]) -> Written {
+fn ask(b: Bus, lent: &[u8], out: &mut [u8]) -> Answer {
     let told = table::indicator_of(lent, b.index);
-    Written {
-        number: told.number,
-        len: put_indicator(told.indicator, out, 0),
-    }
+    Answer::of(told.err(), put_indicator(told.unwrap_or(BLANK), out, 0))
 }
 
-// Makes the call of a kind.
+// Makes the call of a kind; none where the kind is not known.
 pub fn run(
     kind: u8,
     b: Bus,
@@ -141,17 +120,15 @@ pub fn run(
     tree: &[u8],
     lent: &mut [u8],
     out: &mut [u8],
-) -> Written {
-    match kind {
+) -> Option<Answer> {
+    let answer = match kind {
         0x70 => data(b, tree, lent, out),
         0x71 => identifier(b, tree, lent, out),
         0x72 => receive(b, string, lent, out),
         0x73 => usable(b, string, lent, out),
         0x74 => receive_list(b, string, lent, out),
         0x75 => ask(b, lent, out),
-        _ => Written {
-            number: 0,
-            len: UNKNOWN,
-        },
-    }
+        _ => return None,
+    };
+    Some(answer)
 }

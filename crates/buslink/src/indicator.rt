@@ -20,7 +20,7 @@ pub(crate) const ERROR: u8 = 0x40;
 pub(crate) const RAW: u8 = 7;
 
 // An indicator without a probe.
-pub(crate) const BLANK: Indicator = Indicator {
+pub const BLANK: Indicator = Indicator {
     value: 0,
     status: 0,
     format: 0,
