@@ -3,3 +3,4 @@ pub mod ReadLaws
 pub mod ServeLaws
 pub mod ReplyLaws
 pub mod AnswerLaws
+pub mod CodeLaws

@@ -2,29 +2,24 @@
 -- Assumes nothing.
 use Prim.Native.Nat.{ℕ, ◌-◌, ◌<◌, ◌≤◌}
 use native.Mathlib.Omega.{arith}
-use mathlib.Core.Path.{◌≡◌, refl, sym, ap, ap₂, ◌∙◌}
+use mathlib.Core.Path.{◌≡◌, refl, sym, ap, ◌∙◌}
 use mathlib.Core.Bool.{Bool, true, false, cond, ◌&&◌}
 use mathlib.Core.List.{List}
 use mathlib.Core.Option.{Option, none, some}
 use borrow.Author.Tests.{eqb-true, eqb-false, ltb-true, ltb-false, lt-ltb, eq-eqb, ne_eqb}
-use lib.ListN.{length, get_or, take, drop, replicate}
-use lib.Seq.{take_at}
+use lib.ListN.{length, get_or, take, drop}
 use lib.Dec.{eqb, ltb}
-use Rattle.protocol.specs.Numbers.{done, disabled, too_short, too_long, bad_checksum, other_address, bad_pair, no_preamble, DLE, STX, max_data, max_content, max_depth}
+use Rattle.std.specs.Prelude.{Result}
+use Rattle.protocol.specs.declared.Refusal.{Refusal}
+use Rattle.protocol.specs.Numbers.{done, disabled, too_short, too_long, bad_checksum, other_address, bad_pair, no_preamble, DLE, STX, max_data, max_content}
 use Rattle.protocol.specs.Frame.{Received, received, refused, size_number, if_sized, judge, judge_whole, undouble, read_frame, read_datagram, four_zeros, checksum, address_in, data_in, checksum_in}
-use Rattle.protocol.specs.Buffer.{over}
-use Rattle.protocol.specs.Request.{Asked, allowance, Allowed, declined, read_request, read_payload}
+use Rattle.protocol.specs.Request.{declined, read_request, read_payload}
 use Rattle.protocol.proofs.TestLaws.{and_left, and_right, if_both}
 use Rattle.protocol.proofs.AnswerLaws.{read_request-fits}
-use Rattle.protocol.proofs.RequestLaws.{allowed, path_most, read_payload_by}
-use Rattle.request.specs.declared.Asked as declared
-use Rattle.request.specs.Asked.{padded, AskedIs}
-use Rattle.answer.specs.Steps.{asked_in, Asks}
-
--- Data that is read with 0 is an allowed request.
-read_request_allowed : (bs : List ℕ) → (read_request bs).number ≡ done → Allowed (read_request bs).request
-read_request_allowed bs h =
-    allowed (read_request bs).request (record { op = (read_request-fits bs).op h; rest = (read_request-fits bs).fit h })
+use Rattle.protocol.proofs.RequestLaws.{read_payload_by}
+use Rattle.request.specs.declared.Request.{Request}
+use Rattle.request.specs.Asked.{asked_of, AskedIs}
+use Rattle.answer.specs.Steps.{of_string}
 
 -- A string or datagram: its number comes before 9.
 pub record Early (r : Received) : Type 0 where
@@ -70,76 +65,52 @@ pub early_datagram : (s : List ℕ) → Early (read_datagram s)
 unfolding read_datagram
 early_datagram s = if_both Early (four_zeros s) (early_sized (drop 4 s)) (early_refused no_preamble (omega arith))
 
--- What was handed back is what was read.
-asked_parts : {n n' op op' index index' value value' : ℕ} {path path' : List ℕ} → n ≡ n' → op ≡ op' → path ≡ path' → index ≡ index' → value ≡ value'
-    → ◌≡◌ {A = Asked} (record { number = n; request = record { op = op; path = path; index = index; value = value } })
-    (record { number = n'; request = record { op = op'; path = path'; index = index'; value = value' } })
-asked_parts a b c d e = cc
-
-padded_front : (path : List ℕ) → take (length path) (padded path) ≡ path
-unfolding padded over
-padded_front path = take_at path (drop (length path) (replicate max_depth 0)) (length path) refl
-
-pub asked_is : (a : Asked) {x : declared.Asked} → AskedIs a x → asked_in x ≡ a
-asked_is a h =
-    asked_parts h.number h.op (ap₂ take h.len h.path ∙ padded_front a.request.path) h.index h.value
-
-pub asks : (bs : List ℕ) {x : declared.Asked} → asked_in x ≡ read_request bs → x.len ≡ length (read_request bs).request.path → x.number ≡ done → Asks x
-asks bs {x} e len h =
-    let read : (read_request bs).number ≡ done = ap (λ a. a.number) (sym e) ∙ h in
-    record {
-      short = omega (arith, len, path_most (read_request bs).request ((read_request-fits bs).fit read));
-      allowed = ap (λ a. allowance a.request) e ∙ read_request_allowed bs read;
-    }
-
 -- A string or datagram that was read: where the number is one of rows 2 to 7 it is that of the string; else the string is good,
 -- and what was read is its data.
-pub record Refused (r : Received) (x : declared.Asked) : Type 0 where
-  pub number : x.number ≡ r.number
+pub record Refused (r : Received) (n : ℕ) : Type 0 where
+  pub number : n ≡ r.number
   pub bad : r.number ≡ done → ⊥
 
-pub record Read (r : Received) (x : declared.Asked) : Type 0 where
+pub record Read (r : Received) (x : Result Request Refusal) : Type 0 where
   pub good : r.number ≡ done
-  pub is : asked_in x ≡ read_request r.payload
-  pub asked : x.number ≡ done → Asks x
+  pub is : asked_of x ≡ read_request r.payload
 
-module _ (r : Received) (early : Early r) {x : declared.Asked} (h : AskedIs (read_payload r) x) where
+module _ (r : Received) (early : Early r) {x : Result Request Refusal} (h : AskedIs (read_payload r) x) where
   payload_done : r.number ≡ done → read_payload r ≡ read_request r.payload
   payload_done e = read_payload_by r true (eq-eqb r.number done e)
 
   payload_bad : (r.number ≡ done → ⊥) → read_payload r ≡ declined r.number
   payload_bad u = read_payload_by r false (ne_eqb r.number done u)
 
-  pub row_of_string : {t : Bool} → t ≡ (ltb 0 x.number && ltb x.number disabled) → t ≡ true → Refused r x
-  row_of_string is told =
-      let both : (ltb 0 x.number && ltb x.number disabled) ≡ true = sym is ∙ told in
-      let p : 0 < x.number = ltb-true 0 x.number (and_left (ltb 0 x.number) _ both) in
-      let q : x.number < disabled = ltb-true x.number disabled (and_right (ltb 0 x.number) _ both) in
-      let bad : r.number ≡ done → ⊥ = λ e.
-      let number_is : x.number ≡ (read_request r.payload).number = h.number ∙ ap (λ a. a.number) (payload_done e) in
-      omega (arith, p, q, number_is, ((read_request-fits r.payload).late (λ d. omega (arith, p, number_is, d))).0) in
-      record { number = h.number ∙ ap (λ a. a.number) (payload_bad bad); bad = bad }
+  number_is : (asked_of x).number ≡ (read_payload r).number
+  number_is = ap (λ a. a.number) h.is
 
-  pub row_of_data : {t : Bool} → t ≡ (ltb 0 x.number && ltb x.number disabled) → t ≡ false → Read r x
-  row_of_data is told = go (eqb r.number done) refl
+  pub row_of_string : of_string (asked_of x).number ≡ true → Refused r (asked_of x).number
+  row_of_string both =
+      let n = (asked_of x).number in
+      let p : 0 < n = ltb-true 0 n (and_left (ltb 0 n) _ both) in
+      let q : n < disabled = ltb-true n disabled (and_right (ltb 0 n) _ both) in
+      let bad : r.number ≡ done → ⊥ = λ e.
+      let is : n ≡ (read_request r.payload).number = number_is ∙ ap (λ a. a.number) (payload_done e) in
+      omega (arith, p, q, is, ((read_request-fits r.payload).late (λ d. omega (arith, p, is, d))).0) in
+      record { number = number_is ∙ ap (λ a. a.number) (payload_bad bad); bad = bad }
+
+  pub row_of_data : of_string (asked_of x).number ≡ false → Read r x
+  row_of_data told = go (eqb r.number done) refl
     where
-      late : 0 < x.number → disabled ≤ x.number
+      late : 0 < (asked_of x).number → disabled ≤ (asked_of x).number
       late p =
-          ltb-false x.number disabled (sym (ap (λ b. b && ltb x.number disabled) (lt-ltb 0 x.number p)) ∙ sym is ∙ told)
+          ltb-false (asked_of x).number disabled (sym (ap (λ b. b && ltb (asked_of x).number disabled) (lt-ltb 0 (asked_of x).number p)) ∙ told)
 
       go : (t : Bool) → eqb r.number done ≡ t → Read r x
       go true e =
           let good : r.number ≡ done = eqb-true r.number done e in
-          let is : asked_in x ≡ read_request r.payload = asked_is (read_payload r) h ∙ payload_done good in
-          record {
-            good = good;
-            is = is;
-            asked = asks r.payload is (h.len ∙ ap (λ a. length a.request.path) (payload_done good));
-          }
+          let is : asked_of x ≡ read_request r.payload = h.is ∙ payload_done good in
+          record { good = good; is = is }
       go false e =
-          let number_is : x.number ≡ r.number = h.number ∙ ap (λ a. a.number) (payload_bad (eqb-false r.number done e)) in
-          let some_row : 0 < x.number = omega (arith, number_is, eqb-false r.number done e) in
-          absurd (omega (arith, number_is, early.early, late some_row))
+          let told_is : (asked_of x).number ≡ r.number = number_is ∙ ap (λ a. a.number) (payload_bad (eqb-false r.number done e)) in
+          let some_row : 0 < (asked_of x).number = omega (arith, told_is, eqb-false r.number done e) in
+          absurd (omega (arith, told_is, early.early, late some_row))
 
 -- Data of a good size, and of another.
 pub sized-done : (bs : List ℕ) → size_number (length bs) ≡ done → if_sized bs (received bs) ≡ received bs

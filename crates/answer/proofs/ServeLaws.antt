@@ -24,7 +24,7 @@ use Rattle.compose.proofs.WriteLaws.{put_front, emits_formed}
 use Rattle.tree.specs.Seen.{seen}
 use Rattle.cells.specs.Cells.{cells_in}
 use Rattle.cells.specs.Lent.{is_lent, lent_number}
-use Rattle.cells.proofs.CellLaws.{lent_done, lent_refused}
+use Rattle.cells.proofs.CellLaws.{lent_done, lent_refused, refused_unsound}
 use Rattle.answer.specs.Steps.{answer_asked, Rejects, Answers}
 use Rattle.answer.proofs.AnswerLaws.{lent_sound}
 use Rattle.answer.specs.Serve.{Open, rejected, in_form, serve, Call, serving, Serves}
@@ -37,8 +37,10 @@ answered_data t cs false bs = refl
 
 -- Rows 1 and 8 by the check and the room.
 module _ (tree cells : List ℕ) (room least : ℕ) {n : ℕ} (e : n ≡ lent_number tree cells) where
-  pub row_unsound : (n ≡ done → ⊥) → unsound ≡ cond (is_lent tree cells) (cond (ltb room least) no_room done) unsound
-  row_unsound u = sym (ap (λ t. cond t (cond (ltb room least) no_room done) unsound) (lent_refused tree cells e u))
+  pub row_unsound : (n ≡ done → ⊥) → n ≡ cond (is_lent tree cells) (cond (ltb room least) no_room done) unsound
+  row_unsound u =
+      refused_unsound tree cells e u
+      ∙ sym (ap (λ t. cond t (cond (ltb room least) no_room done) unsound) (lent_refused tree cells e u))
 
   pub row_lent : n ≡ done → {u : Bool} → ltb room least ≡ u
       → cond u no_room done ≡ cond (is_lent tree cells) (cond (ltb room least) no_room done) unsound
@@ -131,12 +133,16 @@ module _ (a : Answer) {n size action missing : ℕ} {cells' out out' : List ℕ}
         bytes = h.reply.bytes ∙ over_put a.reply out;
       }
 
-  pub as_serial : Sized a.reply → (address : ℕ) {lent new : List ℕ} {m len : ℕ} → room_serial ≤ length lent
-      → Emits (if_room room_serial (length lent) (write_frame address (take size out'))) lent m len new
-      → Serves (in_form (frame address) a) lent n len action missing cells' new
-  as_serial sized address room e =
-      let w = emits_formed (frame address) room_serial a.reply sized (put_front {ys = a.reply} h.reply) room e in
-      record { number = h.number; len = w.len; acts = h.acts; tells = h.tells; cells = h.cells; bytes = w.bytes }
+  -- The frame of a reply is written.
+  module _ (sized : Sized a.reply) (address : ℕ) {lent new : List ℕ} {m len : ℕ} (room : room_serial ≤ length lent)
+      (e : Emits (if_room room_serial (length lent) (write_frame address (take size out'))) lent m len new) where
+    pub serial_written : m ≡ done
+    serial_written = (emits_formed (frame address) room_serial a.reply sized (put_front {ys = a.reply} h.reply) room e).number
+
+    pub as_serial : Serves (in_form (frame address) a) lent n len action missing cells' new
+    as_serial =
+        let w = emits_formed (frame address) room_serial a.reply sized (put_front {ys = a.reply} h.reply) room e in
+        record { number = h.number; len = w.len; acts = h.acts; tells = h.tells; cells = h.cells; bytes = w.bytes }
 
 -- The reply behind its four zero bytes.
 abbrev pub zeros : List ℕ

@@ -1,7 +1,8 @@
 // A request that was read, answered: the reply at the front of an output of at least 256 bytes, and the cells afterwards.
 ghost use Rattle.std.specs.Prelude.{◌≡◌, true, [], ◌∷◌, ◌≤◌, ◌<◌, length};
 ghost use Rattle.std.proofs.Math.Option.{some};
-ghost use Rattle.protocol.specs.Numbers.{done, op_detect, op_node, op_read};
+ghost use Rattle.protocol.specs.Numbers.{op_detect, op_node, op_read};
+ghost use Rattle.protocol.specs.Refusal.{refusal_number, op_number};
 ghost use Rattle.protocol.specs.Buffer.{Put};
 ghost use Rattle.protocol.specs.Request.{data_of};
 ghost use Rattle.protocol.specs.Tree.{property_in};
@@ -10,19 +11,16 @@ ghost use Rattle.protocol.specs.Answer.{refusal_code, on_read, on_write, on_prop
 ghost use Rattle.tree.specs.Seen.{seen};
 ghost use Rattle.cells.specs.Cells.{cells_in};
 ghost use Rattle.cells.specs.Lent.{is_lent};
-ghost use Rattle.answer.specs.Steps.{request_in, asked_in, Asks, Refuses, answer_asked, Answers};
+ghost use Rattle.request.specs.Asked.{request_in, asked_of};
+ghost use Rattle.answer.specs.Steps.{OutcomeIs, Refuses, answer_asked, Replies, Attempts};
 
-use super::Served;
-use cells::{Reading, cell};
-use lookup::Reached;
-use protocol::{
-    DISABLED, DONE, NO_ACTION, NO_READING, NO_SUCH_NODE, NO_SUCH_PROPERTY, NOT_SAVED, OP_DETECT,
-    OP_NODE, OP_READ, OP_RECORD, UNKNOWN_COMMAND, codes,
-};
+use super::{Failure, Reply};
+use cells::cell;
+use lookup::Missing;
+use protocol::{Op, Refusal, codes};
 use reply::write;
 use reply::write::Outcome;
-use request::Asked;
-use tree::Found;
+use request::Request;
 
 // A reply of one code.
 fn put_code(out: &mut [u8], code: u8) -> usize
@@ -34,180 +32,212 @@ fn put_code(out: &mut [u8], code: u8) -> usize
 }
 
 // The request's data, which every other reply begins with.
-fn put_request(asked: Asked, out: &mut [u8]) -> usize
-    requires { (256 ≤ length out.old) × (Asks asked) }
-    ensures { Put 0 (data_of (request_in asked)) out.old result out.new }
+fn put_request(request: Request, out: &mut [u8]) -> usize
+    requires { 256 ≤ length out.old }
+    ensures { Put 0 (data_of (request_in request)) out.old result out.new }
 {
-    let path = asked.path;
-    let len = asked.len;
-    compose::put_data(asked.op, &path[..len], asked.index, asked.value, out)
+    let op = u8::from(request.op);
+    compose::put_data(
+        op,
+        request.path.as_slice(),
+        request.index,
+        request.value,
+        out,
+    )
 }
 
 // Rows 9 to 12, and 15 and 16: the reply code of a refusal.
-fn refusal_code(number: u8) -> u8
-    ensures { result ≡ refusal_code number }
+fn refusal_code(refusal: Refusal) -> u8
+    ensures { result ≡ refusal_code (refusal_number refusal) }
 {
-    if number == DISABLED {
-        return codes::DISABLED;
+    match refusal {
+        Refusal::Disabled => codes::DISABLED,
+        Refusal::UnknownCommand => codes::ILLEGAL,
+        Refusal::NoReading => codes::NAK,
+        _ => codes::ERROR,
     }
-    if number == UNKNOWN_COMMAND {
-        return codes::ILLEGAL;
-    }
-    if number == NO_READING {
-        return codes::NAK;
-    }
-    codes::ERROR
 }
 
-// A refusal, with the length of the part of the path that no node has, or 0.
-fn refuse(number: u8, missing: u8, out: &mut [u8]) -> Served
+// A failure, its reply code at the front of an output.
+fn refuse(failure: Failure, out: &mut [u8]) -> Reply
     requires { 256 ≤ length out.old }
-    ensures { Refuses number missing out.old result.number result.len result.action result.missing out.new }
+    ensures { Refuses failure out.old result out.new }
 {
-    Served {
-        number,
-        len: put_code(out, refusal_code(number)),
-        action: NO_ACTION,
-        missing,
+    let code = refusal_code(Refusal::from(failure));
+    Reply {
+        len: put_code(out, code),
+        outcome: Err(failure),
     }
 }
 
-// Op 3.
-fn on_read(tree: &[u8], cells: &[u8], place: usize, asked: Asked, out: &mut [u8]) -> Served
-    requires { (256 ≤ length out.old) × ((is_lent tree.now cells.now ≡ true) × (Asks asked × (asked.op ≡ op_read))) }
-    ensures { Answers (on_read (cells_in cells.now) (property_in (seen tree.now) place) place (request_in asked)) out.old result.number result.len result.action result.missing cells.now out.new }
+// A reply of so many bytes that tells nothing beside them.
+fn plain(len: usize) -> Reply
+    ensures { result ≡ record { len = len; outcome = Ok None } }
 {
-    let Reading::Word(n) = cell::reading(tree, cells, place) else {
-        return refuse(NO_READING, 0, out);
-    };
-    let at = put_request(asked, out);
-    Served {
-        number: DONE,
-        len: reply::put_reading(n, out, at),
-        action: NO_ACTION,
-        missing: 0,
-    }
-}
-
-// Ops 4 and 5.
-fn on_write(tree: &[u8], cells: &mut [u8], place: usize, asked: Asked, out: &mut [u8]) -> Served
-    requires { (256 ≤ length out.old) × ((is_lent tree.now cells.old ≡ true) × (Asks asked × ((op_read < asked.op) × (place < 256)))) }
-    ensures { Answers (on_write (cells_in cells.old) place (request_in asked) (outcome (property_in (seen tree.now) place) asked.value)) out.old result.number result.len result.action result.missing cells.new out.new }
-{
-    let o = write::outcome_of(tree, place, asked.value);
-    let at = put_request(asked, out);
-    let len = reply::put_written(o, asked.op, out, at);
-    match o {
-        Outcome::Saved => {
-            cell::store_word(cells, place, asked.value);
-            Served {
-                number: DONE,
-                len,
-                action: NO_ACTION,
-                missing: 0,
-            }
-        }
-        Outcome::Taken => Served {
-            number: DONE,
-            len,
-            action: place as u8,
-            missing: 0,
-        },
-        Outcome::ReadOnly => not_saved(len),
-        Outcome::OutOfRange => not_saved(len),
-        Outcome::OffStep => not_saved(len),
-    }
-}
-
-fn not_saved(len: usize) -> Served
-    ensures { (result.number ≡ 13) × ((result.len ≡ len) × ((result.action ≡ 255) × (result.missing ≡ 0))) }
-{
-    Served {
-        number: NOT_SAVED,
+    Reply {
         len,
-        action: NO_ACTION,
-        missing: 0,
+        outcome: Ok(None),
     }
 }
 
-// Ops 2 to 5, once the property is found.
-fn on_property(tree: &[u8], cells: &mut [u8], place: usize, asked: Asked, out: &mut [u8]) -> Served
-    requires { (256 ≤ length out.old) × ((is_lent tree.now cells.old ≡ true) × (Asks asked × ((op_node < asked.op) × (place < length (seen tree.now).properties)))) }
-    ensures { Answers (on_property outcome (seen tree.now) (cells_in cells.old) (request_in asked) place) out.old result.number result.len result.action result.missing cells.new out.new }
+// What a write tells beside its reply.
+fn outcome_of(did: Outcome, place: usize) -> Result<Option<u8>, Failure>
+    requires { place < 256 }
+    ensures { OutcomeIs did place result }
 {
-    if asked.op == OP_RECORD {
-        let at = put_request(asked, out);
-        return Served {
-            number: DONE,
-            len: reply::put_record(tree, place, out, at),
-            action: NO_ACTION,
-            missing: 0,
-        };
+    match did {
+        Outcome::Saved => Ok(None),
+        Outcome::Taken => Ok(Some(place as u8)),
+        Outcome::ReadOnly | Outcome::OutOfRange | Outcome::OffStep => {
+            Err(Failure::Refused(Refusal::NotSaved))
+        }
     }
-    if asked.op == OP_READ {
-        return on_read(tree, cells, place, asked, out);
-    }
-    on_write(tree, cells, place, asked, out)
 }
 
-// Ops 1 to 5, once the node is found.
-fn on_node(tree: &[u8], cells: &mut [u8], node: usize, asked: Asked, out: &mut [u8]) -> Served
-    requires { (256 ≤ length out.old) × ((is_lent tree.now cells.old ≡ true) × (Asks asked × (op_detect < asked.op))) }
-    ensures { Answers (if_node outcome failure_number (seen tree.now) (cells_in cells.old) (request_in asked) (some node)) out.old result.number result.len result.action result.missing cells.new out.new }
-{
-    if asked.op == OP_NODE {
-        let at = put_request(asked, out);
-        return Served {
-            number: DONE,
-            len: reply::put_node(tree, node, out, at),
-            action: NO_ACTION,
-            missing: 0,
-        };
+// A request that the table allows, the tree and cells that it is asked of, and the output for its reply.
+#[derive(Drop)]
+pub(crate) struct Exchange<'a> {
+    pub tree: &'a [u8],
+    pub cells: &'a mut [u8],
+    pub request: Request,
+    pub out: &'a mut [u8],
+    ghost lent: { is_lent tree.now cells.now ≡ true },
+    ghost roomy: { 256 ≤ length out.now },
+}
+
+impl Exchange<'_> {
+    ghost use Rattle.answer.specs.Exchange.{Exchanges};
+
+    // Op 3.
+    fn on_read(&mut self, place: usize) -> Result<Reply, Failure>
+        requires { op_number self.old.request.op ≡ op_read }
+        ensures { Exchanges (on_read (cells_in self.old.cells.now) (property_in (seen self.old.tree.now) place) place (request_in self.old.request)) self.old result self.new }
+    {
+        let cells = &mut *self.cells;
+        let word = cell::reading(self.tree, cells, place).ok_or(Refusal::NoReading)?;
+        let at = put_request(self.request, self.out);
+        Ok(plain(reply::put_reading(word, self.out, at)))
     }
-    let Found::At(place) = lookup::property(tree, node, asked.index) else {
-        return refuse(NO_SUCH_PROPERTY, 0, out);
+
+    // Ops 4 and 5.
+    fn on_write(&mut self, place: usize) -> Reply
+        requires op { op_read < op_number self.old.request.op }
+        requires within { place < 256 }
+        ensures { Exchanges (on_write (cells_in self.old.cells.now) place (request_in self.old.request) (outcome (property_in (seen self.old.tree.now) place) self.old.request.value)) self.old (Ok result) self.new }
+    {
+        let request = self.request;
+        let did = write::outcome_of(self.tree, place, request.value);
+        let at = put_request(request, self.out);
+        let len = reply::put_written(did, request.op, self.out, at);
+        if let Outcome::Saved = did {
+            cell::store_word(self.cells, place, request.value);
+            return plain(len);
+        }
+        Reply {
+            len,
+            outcome: outcome_of(did, place),
+        }
+    }
+
+    // Ops 2 to 5, once the property is found.
+    fn on_property(&mut self, place: usize) -> Result<Reply, Failure>
+        requires op { op_node < op_number self.old.request.op }
+        requires within { place < length (seen self.old.tree.now).properties }
+        ensures { Exchanges (on_property outcome (seen self.old.tree.now) (cells_in self.old.cells.now) (request_in self.old.request) place) self.old result self.new }
+    {
+        match self.request.op {
+            Op::Record => {
+                let at = put_request(self.request, self.out);
+                Ok(plain(reply::put_record(self.tree, place, self.out, at)))
+            }
+            Op::Read => self.on_read(place),
+            _ => Ok(self.on_write(place)),
+        }
+    }
+
+    // Ops 1 to 5, once the node is found.
+    fn on_node(&mut self, node: usize) -> Result<Reply, Failure>
+        requires { op_detect < op_number self.old.request.op }
+        ensures { Exchanges (if_node outcome failure_number (seen self.old.tree.now) (cells_in self.old.cells.now) (request_in self.old.request) (some node)) self.old result self.new }
+    {
+        if let Op::Node = self.request.op {
+            let at = put_request(self.request, self.out);
+            return Ok(plain(reply::put_node(self.tree, node, self.out, at)));
+        }
+        let place = lookup::property(self.tree, node, self.request.index).ok_or(
+            Refusal::NoSuchProperty,
+        )?;
+        self.on_property(place)
+    }
+
+    // The request.
+    fn perform(&mut self) -> Result<Reply, Failure>
+        ensures { Exchanges (perform outcome failure_number (seen self.old.tree.now) (cells_in self.old.cells.now) (request_in self.old.request)) self.old result self.new }
+    {
+        let request = self.request;
+        if let Op::Detect = request.op {
+            return Ok(plain(put_code(self.out, codes::ACK)));
+        }
+        match lookup::node(self.tree, request.path.as_slice()) {
+            Ok(node) => self.on_node(node),
+            Err(Missing(part)) => Err(Failure::NoNode(part as u8)),
+        }
+    }
+}
+
+// A request that was read.
+fn perform(
+    tree: &[u8],
+    cells: &mut [u8],
+    request: Request,
+    out: &mut [u8],
+) -> Result<Reply, Failure>
+    requires room { 256 ≤ length out.old }
+    requires lent { is_lent tree.now cells.old ≡ true }
+    ensures { Attempts (perform outcome failure_number (seen tree.now) (cells_in cells.old) (request_in request)) cells.old out.old result cells.new out.new }
+{
+    let mut exchange = Exchange {
+        tree,
+        cells,
+        request,
+        out,
     };
-    on_property(tree, cells, place, asked, out)
-}
-
-// A request.
-fn perform(tree: &[u8], cells: &mut [u8], asked: Asked, out: &mut [u8]) -> Served
-    requires { (256 ≤ length out.old) × ((is_lent tree.now cells.old ≡ true) × Asks asked) }
-    ensures { Answers (perform outcome failure_number (seen tree.now) (cells_in cells.old) (request_in asked)) out.old result.number result.len result.action result.missing cells.new out.new }
-{
-    if asked.op == OP_DETECT {
-        return Served {
-            number: DONE,
-            len: put_code(out, codes::ACK),
-            action: NO_ACTION,
-            missing: 0,
-        };
-    }
-    let path = asked.path;
-    let len = asked.len;
-    match lookup::node(tree, &path[..len]) {
-        Reached::At(node) => on_node(tree, cells, node, asked, out),
-        Reached::Missing(part) => refuse(NO_SUCH_NODE, part as u8, out),
-    }
+    exchange.perform()
 }
 
 // What was read: 9, 10 or 11, else the request.
-pub(crate) fn answer_asked(
+fn attempt(
     tree: &[u8],
     cells: &mut [u8],
     host: bool,
-    asked: Asked,
+    asked: Result<Request, Refusal>,
     out: &mut [u8],
-) -> Served
-    requires { (256 ≤ length out.old) × ((is_lent tree.now cells.old ≡ true) × (asked.number ≡ done → Asks asked)) }
-    ensures { Answers (answer_asked (seen tree.now) (cells_in cells.old) host (asked_in asked)) out.old result.number result.len result.action result.missing cells.new out.new }
+) -> Result<Reply, Failure>
+    requires room { 256 ≤ length out.old }
+    requires lent { is_lent tree.now cells.old ≡ true }
+    ensures { Attempts (answer_asked (seen tree.now) (cells_in cells.old) host (asked_of asked)) cells.old out.old result cells.new out.new }
 {
-    let number = asked.number;
     if !host {
-        return refuse(DISABLED, 0, out);
+        return Err(Failure::Refused(Refusal::Disabled));
     }
-    if number != DONE {
-        return refuse(number, 0, out);
+    let request = asked?;
+    perform(tree, cells, request, out)
+}
+
+// The same, with a failure's code as its reply.
+pub(crate) fn answer(
+    tree: &[u8],
+    cells: &mut [u8],
+    host: bool,
+    asked: Result<Request, Refusal>,
+    out: &mut [u8],
+) -> Reply
+    requires room { 256 ≤ length out.old }
+    requires lent { is_lent tree.now cells.old ≡ true }
+    ensures { Replies (answer_asked (seen tree.now) (cells_in cells.old) host (asked_of asked)) out.old result cells.new out.new }
+{
+    match attempt(tree, cells, host, asked, out) {
+        Ok(reply) => reply,
+        Err(failure) => refuse(failure, out),
     }
-    perform(tree, cells, asked, out)
 }

@@ -4,12 +4,43 @@
 mod answer;
 pub mod serve;
 
-// What a serving call returns: a number of documents 01 and 02, the length of what it wrote, the place of the property whose action
-// is to be taken, or 255, and with 15 the length of the shortest front part of the path that no node has, else 0.
+ghost use Rattle.std.specs.Prelude.{◌≡◌};
+ghost use Rattle.protocol.specs.Refusal.{refusal_number};
+ghost use Rattle.answer.specs.Reply.{failure_told};
+ghost use Rattle.answer.specs.declared.Failure.TheVariants.{Refused};
+
+use protocol::Refusal;
+
+// A reply that a serving call wrote: its length, and what it tells the caller: the place of the property whose action is to be taken,
+// where there is one, or why the request failed.
 #[derive(Drop)]
-pub struct Served {
-    pub number: u8,
+pub struct Reply {
     pub len: usize,
-    pub action: u8,
-    pub missing: u8,
+    pub outcome: Result<Option<u8>, Failure>,
+}
+
+// Why a request failed: no node has its path, of whose front parts the shortest that none has is so long; or as a refusal says.
+#[derive(Clone, Copy, Debug, PartialEq, Eq)]
+pub enum Failure {
+    NoNode(u8),
+    Refused(Refusal),
+}
+
+impl From<Refusal> for Failure {
+    ghost from_gives = { λ refusal failure. failure ≡ Refused refusal };
+
+    fn from(refusal: Refusal) -> Failure {
+        Failure::Refused(refusal)
+    }
+}
+
+impl From<Failure> for Refusal {
+    ghost from_gives = { λ failure refusal. refusal_number refusal ≡ failure_told failure };
+
+    fn from(failure: Failure) -> Refusal {
+        match failure {
+            Failure::NoNode(_) => Refusal::NoSuchNode,
+            Failure::Refused(refusal) => refusal,
+        }
+    }
 }

@@ -1,35 +1,21 @@
 -- `answer::answer::refusal_code` meets its contract. Assumes nothing.
-use borrow.Author.Tests.{eq-eqb, ne_eqb}
-use Rattle.protocol.specs.Numbers.{disabled, unknown_command, no_reading}
 use Rattle.protocol.specs.Answer.{refusal_code}
+use Rattle.answer.proofs.CodeLaws.{code-else}
 use Rattle.answer.proofs.answer.refusal_code.Goals as goal
 
-pub returns-then-number-eq-DISABLED : goal.returns-then-number-eq-DISABLED
+pub returns-in-Disabled : goal.returns-in-Disabled
 unfolding refusal_code
-returns-then-number-eq-DISABLED c = simp (eq-eqb c.args.number disabled c.if-number-eq-DISABLED.true)
+returns-in-Disabled c = rw c.in-Disabled.is
 
-pub returns-then-number-eq-UNKNOWN_COMMAND : goal.returns-then-number-eq-UNKNOWN_COMMAND
+pub returns-in-UnknownCommand : goal.returns-in-UnknownCommand
 unfolding refusal_code
-returns-then-number-eq-UNKNOWN_COMMAND c =
-    let n = c.args.number in
-    simp (ne_eqb n disabled c.if-number-eq-DISABLED.false, eq-eqb n unknown_command c.if-number-eq-UNKNOWN_COMMAND.true)
+returns-in-UnknownCommand c = rw c.in-UnknownCommand.is
 
-pub returns-then-number-eq-NO_READING : goal.returns-then-number-eq-NO_READING
+pub returns-in-NoReading : goal.returns-in-NoReading
 unfolding refusal_code
-returns-then-number-eq-NO_READING c =
-    let n = c.args.number in
-    simp (
-      ne_eqb n disabled c.if-number-eq-DISABLED.false,
-      ne_eqb n unknown_command c.if-number-eq-UNKNOWN_COMMAND.false,
-      eq-eqb n no_reading c.if-number-eq-NO_READING.true,
-    )
+returns-in-NoReading c = rw c.in-NoReading.is
 
-pub returns : goal.returns
-unfolding refusal_code
-returns c =
-    let n = c.args.number in
-    simp (
-      ne_eqb n disabled c.if-number-eq-DISABLED.false,
-      ne_eqb n unknown_command c.if-number-eq-UNKNOWN_COMMAND.false,
-      ne_eqb n no_reading c.if-number-eq-NO_READING.false,
-    )
+pub returns-in_default : goal.returns-in_default
+returns-in_default c =
+    let arm = c.in_default in
+    code-else c.args.refusal arm.not-Disabled arm.not-UnknownCommand arm.not-NoReading

@@ -1,61 +1,91 @@
 -- `answer::serve::serve_serial` meets its contract. Assumes nothing.
 use Prim.Native.Nat.{◌≤◌}
 use native.Mathlib.Omega.{arith}
-use lib.ListN.{length}
+use mathlib.Core.Path.{refl, sym, ap, subst, ◌∙◌}
+use lib.ListN.{length, replicate}
+use Rattle.std.proofs.lemmas.Result.{err_from_is_err_and}
+use Rattle.protocol.specs.Refusal.{number_told, length_told}
 use Rattle.protocol.specs.Request.{read_serial}
 use Rattle.protocol.proofs.ListLaws.{part_size}
-use Rattle.answer.specs.Serve.{serial_call, Open}
+use Rattle.protocol.proofs.RefusalLaws.{refusal_some}
+use Rattle.request.specs.Asked.{asked_of}
+use Rattle.answer.specs.Serve.{Call, serial_call, Open}
+use Rattle.answer.specs.Steps.{Replies}
 use Rattle.answer.proofs.ReadLaws.{Read, early_frame, row_of_string, row_of_data}
-use Rattle.answer.proofs.ServeLaws.{answer_to, opened, serve_unlent, serve-refused, serve_answered, replies, answered_as, as_serial, reply_within}
+use Rattle.answer.proofs.ServeLaws.{answer_to, opened, serve_unlent, serve-refused, serve_answered, replies, answered_as, serial_written, as_serial, reply_within}
 use Rattle.answer.proofs.serve.serve_serial.Goals as goal
-use Rattle.answer.proofs.serve.serve_serial.Goals.{After-answer_asked-served, Else-is_frame_refusal, Else-lent-ne-DONE}
+use Rattle.answer.proofs.serve.serve_serial.Goals.{Start, In_ok-check_lent, In_ok-asked, After-answer-reply}
 
--- Behind rows 1 and 8, and behind rows 2 to 7.
-unrefused : (c : Else-lent-ne-DONE) → Open (serial_call c.args.address (length c.args.out.now) c.args.s.now c.args.host c.args.tree.now c.args.cells.now)
-unrefused c =
-    opened (serial_call c.args.address (length c.args.out.now) c.args.s.now c.args.host c.args.tree.now c.args.cells.now) c.lent_number-lent.ensures c.if-lent-ne-DONE.false
+abbrev call : Start → Call
+call c = serial_call c.args.address (length c.args.out.now) c.args.s.now c.args.host c.args.tree.now c.args.cells.now
 
-good : (c : Else-is_frame_refusal) → Read (serial_call c.args.address (length c.args.out.now) c.args.s.now c.args.host c.args.tree.now c.args.cells.now).string c.read_serial-asked.result
+-- Behind rows 1 and 8.
+unrefused : (c : In_ok-check_lent) → Open (serial_call c.args.address (length c.args.out.now) c.args.s.now c.args.host c.args.tree.now c.args.cells.now)
+unrefused c = opened (serial_call c.args.address (length c.args.out.now) c.args.s.now c.args.host c.args.tree.now c.args.cells.now) (sym (ap number_told c.in_ok-check_lent.was) ∙ c.check_lent.ensures) refl
+
+pub returns-in_err-check_lent : goal.returns-in_err-check_lent
+returns-in_err-check_lent c =
+    let e = c.in_err-check_lent.field-0.0 in
+    let failed = err_from_is_err_and c.from_residual.result c.from_residual.ensures.1 in
+    rw (failed.1, failed.2)
+    (serve_unlent (call (goal.at.returns-in_err-check_lent c).Start) c.in_err-check_lent.ensures (refusal_some e) (refl, (refl, (refl, refl))) c.args.out.now)
+
+-- Behind rows 2 to 7.
+good : (c : In_ok-asked) → Read (serial_call c.args.address (length c.args.out.now) c.args.s.now c.args.host c.args.tree.now c.args.cells.now).string c.in_ok-asked.asked
 unfolding read_serial
 good c =
-    row_of_data (serial_call c.args.address (length c.args.out.now) c.args.s.now c.args.host c.args.tree.now c.args.cells.now).string (early_frame c.args.address c.args.s.now) c.read_serial-asked.ensures
-    c.is_frame_refusal.ensures c.if-is_frame_refusal.false
+    let k = serial_call c.args.address (length c.args.out.now) c.args.s.now c.args.host c.args.tree.now c.args.cells.now in
+    subst (Read k.string) (sym c.in_ok-asked.ensures.0)
+    (row_of_data k.string (early_frame c.args.address c.args.s.now) c.read_serial.ensures c.in_ok-asked.ensures.1)
 
-within : (c : After-answer_asked-served) → c.answer_asked-served.result.len ≤ length c.answer_asked-served.new.out
+-- The answer.
+answered : (c : After-answer-reply) → Replies (answer_to (serial_call c.args.address (length c.args.out.now) c.args.s.now c.args.host c.args.tree.now c.args.cells.now)) (replicate 256 0) c.answer-reply.result c.answer-reply.new.cells c.answer-reply.new.out
 unfolding read_serial
+answered c =
+    let k = serial_call c.args.address (length c.args.out.now) c.args.s.now c.args.host c.args.tree.now c.args.cells.now in
+    let asked : Read k.string c.in_ok-asked.asked =
+    subst (Read k.string) (sym c.in_ok-asked.ensures.0)
+    (row_of_data k.string (early_frame c.args.address c.args.s.now) c.read_serial.ensures c.in_ok-asked.ensures.1) in
+    answered_as k asked.is c.answer-reply.ensures
+
+within : (c : After-answer-reply) → c.answer-reply.result.len ≤ length c.answer-reply.new.out
 within c =
-    let unrefused : Open (serial_call c.args.address (length c.args.out.now) c.args.s.now c.args.host c.args.tree.now c.args.cells.now) =
-    opened (serial_call c.args.address (length c.args.out.now) c.args.s.now c.args.host c.args.tree.now c.args.cells.now) c.lent_number-lent.ensures c.if-lent-ne-DONE.false in
-    let good : Read (serial_call c.args.address (length c.args.out.now) c.args.s.now c.args.host c.args.tree.now c.args.cells.now).string c.read_serial-asked.result =
-    row_of_data (serial_call c.args.address (length c.args.out.now) c.args.s.now c.args.host c.args.tree.now c.args.cells.now).string (early_frame c.args.address c.args.s.now) c.read_serial-asked.ensures
-    c.is_frame_refusal.ensures c.if-is_frame_refusal.false in
-    let k = (serial_call c.args.address (length c.args.out.now) c.args.s.now c.args.host c.args.tree.now c.args.cells.now) in
-    reply_within (answer_to k) (replies k unrefused) (omega arith) (answered_as k good.is c.answer_asked-served.ensures)
+    let k = serial_call c.args.address (length c.args.out.now) c.args.s.now c.args.host c.args.tree.now c.args.cells.now in
+    let open-call : Open k = opened k (sym (ap number_told c.in_ok-check_lent.was) ∙ c.check_lent.ensures) refl in
+    reply_within (answer_to k) (replies k open-call) (omega arith) (answered c)
 
-pub returns-then-lent-ne-DONE : goal.returns-then-lent-ne-DONE
-returns-then-lent-ne-DONE c =
-    serve_unlent (serial_call c.args.address (length c.args.out.now) c.args.s.now c.args.host c.args.tree.now c.args.cells.now) c.lent_number-lent.ensures c.if-lent-ne-DONE.true c.rejected.ensures c.args.out.now
-
-pub returns-then-is_frame_refusal : goal.returns-then-is_frame_refusal
+pub returns-in_err-asked : goal.returns-in_err-asked
 unfolding read_serial
-returns-then-is_frame_refusal c =
-    let bad = row_of_string (serial_call c.args.address (length c.args.out.now) c.args.s.now c.args.host c.args.tree.now c.args.cells.now).string (early_frame c.args.address c.args.s.now) c.read_serial-asked.ensures c.is_frame_refusal.ensures c.if-is_frame_refusal.true in
-    serve-refused (serial_call c.args.address (length c.args.out.now) c.args.s.now c.args.host c.args.tree.now c.args.cells.now) (unrefused (goal.at.returns-then-is_frame_refusal c).Else-lent-ne-DONE) bad.number bad.bad c.rejected-then-is_frame_refusal.ensures c.args.out.now
-
-pub answer_asked-served-requires : goal.answer_asked-served-requires
-answer_asked-served-requires c =
-    (omega arith, ((unrefused (goal.at.answer_asked-served-requires c).Else-lent-ne-DONE).lent, (good (goal.at.answer_asked-served-requires c).Else-is_frame_refusal).asked))
+returns-in_err-asked c =
+    let k = call (goal.at.returns-in_err-asked c).Start in
+    let e = c.in_err-asked.field-0.0 in
+    let exit = c.from_residual-in_err-asked in
+    let failed = err_from_is_err_and exit.result exit.ensures.1 in
+    let bad = row_of_string k.string (early_frame c.args.address c.args.s.now) c.read_serial.ensures c.in_err-asked.ensures.1 in
+    rw (failed.1, failed.2)
+    (serve-refused k (unrefused (goal.at.returns-in_err-asked c).In_ok-check_lent) (sym (ap (λ x. (asked_of x).number) c.in_err-asked.ensures.0) ∙ bad.number) bad.bad
+    (refl, (refl, (refl, refl))) c.args.out.now)
 
 pub slice_bounds-payload-end : goal.slice_bounds-payload-end
-slice_bounds-payload-end c = within (goal.at.slice_bounds-payload-end c).After-answer_asked-served
+slice_bounds-payload-end c = within (goal.at.slice_bounds-payload-end c).After-answer-reply
 
 pub slice_bounds-write_frame-end : goal.slice_bounds-write_frame-end
 slice_bounds-write_frame-end c =
-    part_size c.answer_asked-served.result.len c.answer_asked-served.new.out (within (goal.at.slice_bounds-write_frame-end c).After-answer_asked-served)
+    part_size c.answer-reply.result.len c.answer-reply.new.out (within (goal.at.slice_bounds-write_frame-end c).After-answer-reply)
+
+pub returns-in_err-len : goal.returns-in_err-len
+returns-in_err-len c =
+    let k = call (goal.at.returns-in_err-len c).Start in
+    let ready = unrefused (goal.at.returns-in_err-len c).In_ok-check_lent in
+    let e = c.in_err-len.field-0.0 in
+    absurd (refusal_some e
+    (sym (ap number_told c.in_err-len.was)
+    ∙ serial_written (answer_to k) (answered (goal.at.returns-in_err-len c).After-answer-reply) (replies k ready) c.args.address ready.roomy c.write_frame.ensures))
 
 pub returns : goal.returns
 returns c =
-    let ready = unrefused (goal.at.returns c).Else-lent-ne-DONE in
-    serve_answered (serial_call c.args.address (length c.args.out.now) c.args.s.now c.args.host c.args.tree.now c.args.cells.now) ready (good (goal.at.returns c).Else-is_frame_refusal).good
-    (as_serial (answer_to (serial_call c.args.address (length c.args.out.now) c.args.s.now c.args.host c.args.tree.now c.args.cells.now)) (answered_as (serial_call c.args.address (length c.args.out.now) c.args.s.now c.args.host c.args.tree.now c.args.cells.now) (good (goal.at.returns c).Else-is_frame_refusal).is c.answer_asked-served.ensures) (replies (serial_call c.args.address (length c.args.out.now) c.args.s.now c.args.host c.args.tree.now c.args.cells.now) ready)
-    c.args.address ready.roomy c.write_frame-framed.ensures)
+    let k = call (goal.at.returns c).Start in
+    let ready = unrefused (goal.at.returns c).In_ok-check_lent in
+    serve_answered k ready (good (goal.at.returns c).In_ok-asked).good
+    (rw (ap length_told c.in_ok-len.was) at
+    (as_serial (answer_to k) (answered (goal.at.returns c).After-answer-reply) (replies k ready) c.args.address ready.roomy c.write_frame.ensures))

@@ -1,61 +1,79 @@
 -- `answer::serve::serve_udp` meets its contract. Assumes nothing.
 use native.Mathlib.Omega.{arith}
-use mathlib.Core.Path.{ap, ◌∙◌}
+use mathlib.Core.Path.{refl, sym, ap, subst, ◌∙◌}
 use lib.ListN.{length, length-drop}
+use Rattle.std.proofs.lemmas.Result.{err_from_is_err_and}
+use Rattle.protocol.specs.Refusal.{number_told}
 use Rattle.protocol.specs.Request.{read_udp}
 use Rattle.protocol.proofs.BufferLaws.{part_lent}
-use Rattle.answer.specs.Serve.{udp_call, Open}
+use Rattle.protocol.proofs.RefusalLaws.{refusal_some}
+use Rattle.request.specs.Asked.{asked_of}
+use Rattle.answer.specs.Serve.{Call, udp_call, Open}
 use Rattle.answer.proofs.ReadLaws.{Read, early_datagram, row_of_string, row_of_data}
 use Rattle.answer.proofs.ServeLaws.{answer_to, opened, serve_unlent, serve-refused, serve_answered, replies, answered_as, as_udp, front_short, reply_short}
 use Rattle.answer.proofs.serve.serve_udp.Goals as goal
-use Rattle.answer.proofs.serve.serve_udp.Goals.{Else-is_frame_refusal, Else-lent-ne-DONE}
+use Rattle.answer.proofs.serve.serve_udp.Goals.{Start, In_ok-check_lent, In_ok-asked}
 
--- Behind rows 1 and 8, and behind rows 2 to 7.
-unrefused : (c : Else-lent-ne-DONE) → Open (udp_call (length c.args.out.now) c.args.datagram.now c.args.host c.args.tree.now c.args.cells.now)
-unrefused c =
-    opened (udp_call (length c.args.out.now) c.args.datagram.now c.args.host c.args.tree.now c.args.cells.now) c.lent_number-lent.ensures c.if-lent-ne-DONE.false
+abbrev call : Start → Call
+call c = udp_call (length c.args.out.now) c.args.datagram.now c.args.host c.args.tree.now c.args.cells.now
 
-good : (c : Else-is_frame_refusal) → Read (udp_call (length c.args.out.now) c.args.datagram.now c.args.host c.args.tree.now c.args.cells.now).string c.read_udp-asked.result
+-- Behind rows 1 and 8.
+unrefused : (c : In_ok-check_lent) → Open (udp_call (length c.args.out.now) c.args.datagram.now c.args.host c.args.tree.now c.args.cells.now)
+unrefused c = opened (udp_call (length c.args.out.now) c.args.datagram.now c.args.host c.args.tree.now c.args.cells.now) (sym (ap number_told c.in_ok-check_lent.was) ∙ c.check_lent.ensures) refl
+
+pub returns-in_err-check_lent : goal.returns-in_err-check_lent
+returns-in_err-check_lent c =
+    let e = c.in_err-check_lent.field-0.0 in
+    let failed = err_from_is_err_and c.from_residual.result c.from_residual.ensures.1 in
+    rw (failed.1, failed.2)
+    (serve_unlent (call (goal.at.returns-in_err-check_lent c).Start) c.in_err-check_lent.ensures (refusal_some e) (refl, (refl, (refl, refl))) c.args.out.now)
+
+-- Behind rows 2 to 7.
+good : (c : In_ok-asked) → Read (udp_call (length c.args.out.now) c.args.datagram.now c.args.host c.args.tree.now c.args.cells.now).string c.in_ok-asked.asked
 unfolding read_udp
 good c =
-    row_of_data (udp_call (length c.args.out.now) c.args.datagram.now c.args.host c.args.tree.now c.args.cells.now).string (early_datagram c.args.datagram.now) c.read_udp-asked.ensures
-    c.is_frame_refusal.ensures c.if-is_frame_refusal.false
+    let k = udp_call (length c.args.out.now) c.args.datagram.now c.args.host c.args.tree.now c.args.cells.now in
+    subst (Read k.string) (sym c.in_ok-asked.ensures.0)
+    (row_of_data k.string (early_datagram c.args.datagram.now) c.read_udp.ensures c.in_ok-asked.ensures.1)
 
-pub returns-then-lent-ne-DONE : goal.returns-then-lent-ne-DONE
-returns-then-lent-ne-DONE c =
-    serve_unlent (udp_call (length c.args.out.now) c.args.datagram.now c.args.host c.args.tree.now c.args.cells.now) c.lent_number-lent.ensures c.if-lent-ne-DONE.true c.rejected.ensures c.args.out.now
-
-pub returns-then-is_frame_refusal : goal.returns-then-is_frame_refusal
+pub returns-in_err-asked : goal.returns-in_err-asked
 unfolding read_udp
-returns-then-is_frame_refusal c =
-    let bad = row_of_string (udp_call (length c.args.out.now) c.args.datagram.now c.args.host c.args.tree.now c.args.cells.now).string (early_datagram c.args.datagram.now) c.read_udp-asked.ensures c.is_frame_refusal.ensures c.if-is_frame_refusal.true in
-    serve-refused (udp_call (length c.args.out.now) c.args.datagram.now c.args.host c.args.tree.now c.args.cells.now) (unrefused (goal.at.returns-then-is_frame_refusal c).Else-lent-ne-DONE) bad.number bad.bad c.rejected-then-is_frame_refusal.ensures c.args.out.now
+returns-in_err-asked c =
+    let k = call (goal.at.returns-in_err-asked c).Start in
+    let e = c.in_err-asked.field-0.0 in
+    let exit = c.from_residual-in_err-asked in
+    let failed = err_from_is_err_and exit.result exit.ensures.1 in
+    let bad = row_of_string k.string (early_datagram c.args.datagram.now) c.read_udp.ensures c.in_err-asked.ensures.1 in
+    rw (failed.1, failed.2)
+    (serve-refused k (unrefused (goal.at.returns-in_err-asked c).In_ok-check_lent) (sym (ap (λ x. (asked_of x).number) c.in_err-asked.ensures.0) ∙ bad.number) bad.bad
+    (refl, (refl, (refl, refl))) c.args.out.now)
 
-pub slice_bounds-answer_asked-count : goal.slice_bounds-answer_asked-count
-slice_bounds-answer_asked-count c = omega (arith, (unrefused (goal.at.slice_bounds-answer_asked-count c).Else-lent-ne-DONE).roomy)
+pub slice_bounds-answer-count : goal.slice_bounds-answer-count
+slice_bounds-answer-count c = omega (arith, (unrefused (goal.at.slice_bounds-answer-count c).In_ok-check_lent).roomy)
 
-pub slice_bounds-answer_asked-start : goal.slice_bounds-answer_asked-start
-slice_bounds-answer_asked-start c = omega (arith, (unrefused (goal.at.slice_bounds-answer_asked-start c).Else-lent-ne-DONE).roomy)
+pub slice_bounds-answer-start : goal.slice_bounds-answer-start
+slice_bounds-answer-start c = omega (arith, (unrefused (goal.at.slice_bounds-answer-start c).In_ok-check_lent).roomy)
 
-pub answer_asked-served-requires : goal.answer_asked-served-requires
-answer_asked-served-requires c =
-    let ready = unrefused (goal.at.answer_asked-served-requires c).Else-lent-ne-DONE in (
-      omega (arith, ready.roomy, ap length (part_lent 4 c.args.out.now) ∙ length-drop 4 c.args.out.now),
-      (ready.lent, (good (goal.at.answer_asked-served-requires c).Else-is_frame_refusal).asked),
-    )
+pub answer-reply-requires-clause-room : goal.answer-reply-requires-clause-room
+answer-reply-requires-clause-room c =
+    omega (arith, (unrefused (goal.at.answer-reply-requires-clause-room c).In_ok-check_lent).roomy, ap length (part_lent 4 c.args.out.now) ∙ length-drop 4 c.args.out.now)
+
+pub answer-reply-requires-clause-lent : goal.answer-reply-requires-clause-lent
+answer-reply-requires-clause-lent c = (unrefused (goal.at.answer-reply-requires-clause-lent c).In_ok-check_lent).lent
 
 pub overflow_add-result : goal.overflow_add-result
 overflow_add-result c =
-    let k = (udp_call (length c.args.out.now) c.args.datagram.now c.args.host c.args.tree.now c.args.cells.now) in
+    let k = call (goal.at.overflow_add-result c).Start in
     omega (
       arith,
       front_short _ c.put_all-front.ensures,
-      reply_short (answer_to k) (replies k (unrefused (goal.at.overflow_add-result c).Else-lent-ne-DONE)) (answered_as k (good (goal.at.overflow_add-result c).Else-is_frame_refusal).is c.answer_asked-served.ensures),
+      reply_short (answer_to k) (replies k (unrefused (goal.at.overflow_add-result c).In_ok-check_lent)) (answered_as k (good (goal.at.overflow_add-result c).In_ok-asked).is c.answer-reply.ensures),
     )
 
 pub returns : goal.returns
 returns c =
-    let ready = unrefused (goal.at.returns c).Else-lent-ne-DONE in
-    serve_answered (udp_call (length c.args.out.now) c.args.datagram.now c.args.host c.args.tree.now c.args.cells.now) ready (good (goal.at.returns c).Else-is_frame_refusal).good
-    (as_udp (answer_to (udp_call (length c.args.out.now) c.args.datagram.now c.args.host c.args.tree.now c.args.cells.now)) (omega (arith, ready.roomy))
-    (answered_as (udp_call (length c.args.out.now) c.args.datagram.now c.args.host c.args.tree.now c.args.cells.now) (good (goal.at.returns c).Else-is_frame_refusal).is c.answer_asked-served.ensures) c.put_all-front.ensures)
+    let k = call (goal.at.returns c).Start in
+    let ready = unrefused (goal.at.returns c).In_ok-check_lent in
+    let asked = good (goal.at.returns c).In_ok-asked in
+    serve_answered k ready asked.good
+    (as_udp (answer_to k) (omega (arith, ready.roomy)) (answered_as k asked.is c.answer-reply.ensures) c.put_all-front.ensures)
