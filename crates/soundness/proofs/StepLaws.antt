@@ -17,6 +17,7 @@ use Rattle.protocol.specs.Bytes.{at_most}
 use Rattle.protocol.specs.Tree.{Property, is_signed, can_read, can_write, is_live, step_code, standard_fits, live_sound, property_in}
 use Rattle.protocol.proofs.TestLaws.{and_left, and_right}
 use Rattle.std.proofs.Common.{Some, None}
+use Rattle.std.specs.Option.{option_eq}
 use Rattle.std.proofs.Common as std
 use Rattle.protocol.specs.Refusal.{option_of}
 use Rattle.tree.specs.declared.record.Fields.{Fields}
@@ -55,43 +56,39 @@ module _ (bs : List ℕ) (k at : ℕ) where
       e ∙ sym (ap option_of (node_here bs (drop (2 + k * node_size) bs) at (name_place bs k ∙ h)))
 
 -- Records from a place on, of which some are done.
-pub record Going (size : ℕ) (f : List ℕ → ℕ → Option ℕ) (bs : List ℕ) (from start total n at k : ℕ) : Type 0 where
-  pub count : n ≡ total
-  pub within : k ≤ n
-  pub inside : at ≤ length bs
-  pub whole : records_end size f total (drop from bs) start ≡ records_end size f (n - k) (drop (from + k * size) bs) at
+pub record Going (size : ℕ) (f : List ℕ → ℕ → Option ℕ) (bs : List ℕ) (from start total at k : ℕ) : Type 0 where
+  pub within : k ≤ total
+  pub whole : records_end size f total (drop from bs) start ≡ records_end size f (total - k) (drop (from + k * size) bs) at
 
-module _ {size : ℕ} {f : List ℕ → ℕ → Option ℕ} {bs : List ℕ} {from start total : ℕ} where
-  pub go_begins : {n : ℕ} → n ≡ total → start ≤ length bs → Going size f bs from start total n start 0
-  go_begins {n} e h =
+module _ (size : ℕ) (f : List ℕ → ℕ → Option ℕ) (bs : List ℕ) (from start total : ℕ) where
+  pub go_begins : Going size f bs from start total start 0
+  go_begins =
       record {
-        count = e;
         within = omega arith;
-        inside = h;
         whole =
             ap₂ (λ m i. records_end size f m (drop i bs) start)
-            (sym e ∙ sym (sub-zero n))
+            (sym (sub-zero total))
             (sym (ap (λ m. from + m) (zero-mul size) ∙ add-zero from));
       }
 
-  module _ {n at k : ℕ} (w : Going size f bs from start total n at k) where
-    pub go_ends : n ≤ k → Some at ≡ option_of (records_end size f total (drop from bs) start)
+  module _ {at k : ℕ} (w : Going size f bs from start total at k) where
+    pub go_ends : total ≤ k → Some at ≡ option_of (records_end size f total (drop from bs) start)
     unfolding records_end
     go_ends h =
-        let m : n - k ≡ 0 = omega arith in
+        let m : total - k ≡ 0 = omega arith in
         sym (ap option_of (w.whole ∙ ap (λ m. records_end size f m (drop (from + k * size) bs) at) m))
 
-    module _ (h : k < n) where
+    module _ (h : k < total) where
       here : records_end size f total (drop from bs) start
-          ≡ and_then (f (drop (from + k * size) bs) at) (λ next. records_end size f (n - (k + 1)) (drop (from + (k + 1) * size) bs) next)
+          ≡ and_then (f (drop (from + k * size) bs) at) (λ next. records_end size f (total - (k + 1)) (drop (from + (k + 1) * size) bs) next)
       unfolding records_end
       here =
-          let m : n - k ≡ suc (n - (k + 1)) = omega arith in
+          let m : total - k ≡ suc (total - (k + 1)) = omega arith in
           let i : from + k * size + size ≡ from + (k + 1) * size =
           add_assoc from (k * size) size ∙ ap (λ x. from + x) (sym (suc-mul k size) ∙ ap (λ x. x * size) (sym (add-one k))) in
           w.whole
           ∙ ap (λ m. records_end size f m (drop (from + k * size) bs) at) m
-          ∙ ap (λ l. and_then (f (drop (from + k * size) bs) at) (λ next. records_end size f (n - (k + 1)) l next))
+          ∙ ap (λ l. and_then (f (drop (from + k * size) bs) at) (λ next. records_end size f (total - (k + 1)) l next))
           (drop-drop size (from + k * size) bs ∙ ap (λ x. drop x bs) i)
 
       pub go_fails : None ≡ option_of (f (drop (from + k * size) bs) at) → None ≡ option_of (records_end size f total (drop from bs) start)
@@ -99,32 +96,19 @@ module _ {size : ℕ} {f : List ℕ → ℕ → Option ℕ} {bs : List ℕ} {fro
       go_fails e =
           sym (ap option_of
           (here
-          ∙ ap (λ o. and_then o (λ next. records_end size f (n - (k + 1)) (drop (from + (k + 1) * size) bs) next))
+          ∙ ap (λ o. and_then o (λ next. records_end size f (total - (k + 1)) (drop (from + (k + 1) * size) bs) next))
           (found_none (f (drop (from + k * size) bs) at) e)))
 
-      pub go_on : {next : ℕ} → (f (drop (from + k * size) bs) at ≡ some next → next ≤ length bs)
-          → Some next ≡ option_of (f (drop (from + k * size) bs) at) → Going size f bs from start total n next (k + 1)
+      pub go_on : {next : ℕ} → Some next ≡ option_of (f (drop (from + k * size) bs) at) → Going size f bs from start total next (k + 1)
       unfolding and_then
-      go_on {next} within e =
-          let is : f (drop (from + k * size) bs) at ≡ some next = found_at (f (drop (from + k * size) bs) at) e in
+      go_on {next} e =
           record {
-            count = w.count;
             within = omega arith;
-            inside = within is;
             whole =
                 here
-                ∙ ap (λ o. and_then o (λ next. records_end size f (n - (k + 1)) (drop (from + (k + 1) * size) bs) next)) is;
+                ∙ ap (λ o. and_then o (λ next. records_end size f (total - (k + 1)) (drop (from + (k + 1) * size) bs) next))
+                (found_at (f (drop (from + k * size) bs) at) e);
           }
-
--- Records end where the bytes do, or before, if each does.
-records_within : (size : ℕ) (f : List ℕ → ℕ → Option ℕ) (most : ℕ)
-    → ((r : List ℕ) (at next : ℕ) → at ≤ most → f r at ≡ some next → next ≤ most)
-    → (n : ℕ) (r : List ℕ) (at : ℕ) {next : ℕ} → at ≤ most → records_end size f n r at ≡ some next → next ≤ most
-unfolding records_end
-records_within size f most g zero r at h e = omega (arith, some-injective _ _ e)
-records_within size f most g (suc n) r at h e =
-    let steps = then_back (f r at) (λ next. records_end size f n (drop size r) next) e in
-    records_within size f most g n (drop size r) steps.0 (g r at steps.0 h steps.1.0) steps.1.1
 
 -- The rules of a property's numbers.
 pub live_by : (p : Property) {live reads writes : Bool} → is_live p ≡ live → can_read p ≡ reads → can_write p ≡ writes
@@ -240,49 +224,42 @@ counts bs h =
           leb-true (texts_start (node_count bs) (property_count bs)) (length bs) (and_right (leb (property_count bs) max_properties) _ b);
     }
 
--- The whole check, test by test.
+-- The texts, in two steps.
 module _ (bs : List ℕ) where
-  abbrev names : Option ℕ
-  names = records_end node_size (node_end bs) (node_count bs) (drop 2 bs) (texts_start (node_count bs) (property_count bs))
+  abbrev names : ℕ → Option ℕ
+  names start = records_end node_size (node_end bs) (node_count bs) (drop 2 bs) start
 
   abbrev labels : ℕ → Option ℕ
   labels mid = records_end property_size (property_end bs) (property_count bs) (drop (properties_start (node_count bs)) bs) mid
 
+  module _ {start : ℕ} (s : start ≡ texts_start (node_count bs) (property_count bs)) where
+    texts_by : {o : Option ℕ} → names start ≡ o → texts_fit bs ≡ and_then o labels
+    unfolding texts_fit
+    texts_by e = ap (λ o. and_then o labels) (ap names (sym s) ∙ e)
+
+    pub nameless : None ≡ option_of (names start) → None ≡ option_of (texts_fit bs)
+    unfolding and_then
+    nameless e = sym (ap option_of (texts_by (found_none (names start) e)))
+
+    pub labels_follow : {mid : ℕ} {x : std.Option ℕ} → Some mid ≡ option_of (names start) → x ≡ option_of (labels mid) → x ≡ option_of (texts_fit bs)
+    unfolding and_then
+    labels_follow e f = f ∙ sym (ap option_of (texts_by (found_at (names start) e)))
+
+-- Whether texts end at a place, as code asks it.
+pub ends_told : (o : Option ℕ) (len : ℕ) → option_eq eqb (option_of o) (Some len) ≡ ends_at o len
+ends_told none len = refl
+ends_told (some n) len = refl
+
+-- The whole check, test by test.
+module _ (bs : List ℕ) where
   pub uncounted : counts_fit bs ≡ false → checked bs ≡ false
   unfolding checked
   uncounted e = rw e
 
-  module _ (fit : counts_fit bs ≡ true) where
-    pub names_within : {mid : ℕ} → Some mid ≡ option_of names → mid ≤ length bs
-    names_within e =
-        records_within node_size (node_end bs) (length bs) (λ r at next h q. node_within bs r at h q) (node_count bs) (drop 2 bs)
-        (texts_start (node_count bs) (property_count bs)) (counts bs fit).records (found_at names e)
-
-    counted_by : {t : Bool} → parents_fit (parents_in bs) ≡ t → checked bs ≡ (t && ends_at (texts_fit bs) (length bs))
-    unfolding checked
-    counted_by e = rw (fit, e)
-
-    depths_fit_is : {t : Bool} → (leb (node_count bs) max_nodes && parents_fit (parents_in bs)) ≡ t → parents_fit (parents_in bs) ≡ t
-    depths_fit_is e =
-        sym (ap (λ u. u && parents_fit (parents_in bs)) (le-leb (node_count bs) max_nodes (counts bs fit).nodes)) ∙ e
-
-    pub parentless : (leb (node_count bs) max_nodes && parents_fit (parents_in bs)) ≡ false → checked bs ≡ false
-    parentless e = counted_by (depths_fit_is e)
-
-    module _ (parents : (leb (node_count bs) max_nodes && parents_fit (parents_in bs)) ≡ true) where
-      texts_by : {o : Option ℕ} → names ≡ o → checked bs ≡ ends_at (and_then o labels) (length bs)
-      unfolding texts_fit
-      texts_by e = counted_by (depths_fit_is parents) ∙ ap (λ o. ends_at (and_then o labels) (length bs)) e
-
-      pub nameless : None ≡ option_of names → checked bs ≡ false
-      unfolding and_then
-      nameless e = texts_by (found_none names e)
-
-      module _ {mid : ℕ} (e : Some mid ≡ option_of names) where
-        pub labelless : None ≡ option_of (labels mid) → checked bs ≡ false
-        unfolding and_then
-        labelless f = texts_by (found_at names e) ∙ ap (λ o. ends_at o (length bs)) (found_none (labels mid) f)
-
-        pub all_read : {end : ℕ} → Some end ≡ option_of (labels mid) → checked bs ≡ eqb end (length bs)
-        unfolding and_then
-        all_read f = texts_by (found_at names e) ∙ ap (λ o. ends_at o (length bs)) (found_at (labels mid) f)
+  pub checked_by : {parents texts : Bool} → counts_fit bs ≡ true → parents ≡ (leb (node_count bs) max_nodes && parents_fit (parents_in bs))
+      → texts ≡ ends_at (texts_fit bs) (length bs) → checked bs ≡ (parents && texts)
+  unfolding checked
+  checked_by fit p t =
+      let fits : parents_fit (parents_in bs) ≡ (leb (node_count bs) max_nodes && parents_fit (parents_in bs)) =
+      sym (ap (λ u. u && parents_fit (parents_in bs)) (le-leb (node_count bs) max_nodes (counts bs fit).nodes)) in
+      rw fit (ap₂ (λ a b. a && b) (fits ∙ sym p) (sym t))

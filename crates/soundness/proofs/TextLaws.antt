@@ -9,11 +9,15 @@ use mathlib.Core.Bool.{Bool, true, false, cond}
 use mathlib.Core.List.{List, [], ◌∷◌}
 use mathlib.Core.Option.{none, some, none-ne-some, some-injective}
 use borrow.Author.Tests.{ne_eqb}
-use lib.ListN.{length, get_or, take, drop, length-take, length-drop}
+use lib.ListN.{length, get_or, take, drop, length-take, length-drop, drop_of_length-le}
 use lib.Seq.{drop-cons, drop-drop, take-nil, get_or-drop, get_or-take, length-take-le}
 use lib.Dec.{eqb, leb}
 use Rattle.protocol.specs.Tree.{is_character}
-use Rattle.std.proofs.Common.{Some, None}
+use Rattle.std.proofs.Common.{Some, None, not, ltb, ltb-false}
+use Rattle.std.specs.Option.{unwrap_or}
+use Rattle.std.specs.List.{position_or_len, position}
+use Rattle.std.proofs.lemmas.List.Sums.{prefix_len-le-length}
+use Rattle.std.proofs.lemmas.List.Recursion.{is_position_or_len}
 use Rattle.protocol.specs.Refusal.{option_of}
 use Rattle.soundness.specs.Check.{characters_in, texts_end, texts_end_in}
 use Rattle.soundness.proofs.ScanLaws.{end_on, end_last, end_next, end_bad}
@@ -96,44 +100,19 @@ characters_stop (b ∷ bs) h = go (is_character b) refl (characters_stop bs) h
     go true e again h = again (omega (arith, h))
     go false e again h = e
 
--- A walk over characters, from a place towards an end.
-pub record Passing (bs : List ℕ) (from end at : ℕ) : Type 0 where
-  pub past : from ≤ at
-  pub within : at ≤ end
-  pub last : end ≤ length bs
-  pub whole : from + characters_in (take (end - from) (drop from bs)) ≡ at + characters_in (take (end - at) (drop at bs))
+-- The count of characters is where the first other byte stands.
+first_other : (bs : List ℕ) → characters_in bs ≡ position_or_len (λ b. not (is_character b)) bs
+unfolding characters_in
+first_other bs = is_position_or_len characters_in (λ b. not (is_character b)) refl (λ b bs. grind arith) bs
 
-pub pass_begins : (bs : List ℕ) (from end : ℕ) → from ≤ end → end ≤ length bs → Passing bs from end from
-pass_begins bs from end h k = record { past = omega arith; within = h; last = k; whole = refl }
-
-module _ {bs : List ℕ} {from end at : ℕ} (p : Passing bs from end at) where
-  pub pass_out : end ≤ at → at ≡ from + characters_in (take (end - from) (drop from bs))
-  unfolding characters_in
-  pass_out h =
-      let n : end - at ≡ 0 = omega arith in
-      sym (p.whole ∙ ap (λ m. at + characters_in (take m (drop at bs))) n ∙ add-zero at)
-
-  module _ (h : at < end) where
-    abbrev behind : ℕ
-    behind = characters_in (take (end - (at + 1)) (drop (at + 1) bs))
-
-    counted : {u : Bool} → is_character (get_or bs at 0) ≡ u
-        → from + characters_in (take (end - from) (drop from bs)) ≡ at + cond u (suc behind) 0
-    unfolding characters_in
-    counted e =
-        p.whole ∙ ap (λ l. at + characters_in l) (first_here bs at end h p.last) ∙ ap (λ u. at + cond u (suc behind) 0) e
-
-    pub pass_on : is_character (get_or bs at 0) ≡ true → Passing bs from end (at + 1)
-    pass_on e = record { past = omega arith; within = omega arith; last = p.last; whole = omega (arith, counted e) }
-
-    pub pass_stop : is_character (get_or bs at 0) ≡ false → at ≡ from + characters_in (take (end - from) (drop from bs))
-    pass_stop e = omega (arith, counted e)
-
-pub pass_two : {bs : List ℕ} {from end : ℕ} (at : ℕ) → Passing bs from end (at + 1) → at + 1 < end → is_character (get_or bs (at + 1) 0) ≡ true
-    → Passing bs from end (at + 2)
-pass_two {bs} {from} {end} at p h e =
-    let n : at + 1 + 1 ≡ at + 2 = omega arith in
-    subst (λ m. Passing bs from end m) n (pass_on p h e)
+pub characters_told : (bs : List ℕ) → unwrap_or (position (λ b. not (is_character b)) bs) (length bs) ≡ characters_in bs
+characters_told bs = go (ltb (position_or_len (λ b. not (is_character b)) bs) (length bs)) refl
+  where
+    go : (t : Bool) → ltb (position_or_len (λ b. not (is_character b)) bs) (length bs) ≡ t
+        → unwrap_or (cond t (Some (position_or_len (λ b. not (is_character b)) bs)) None) (length bs) ≡ characters_in bs
+    go true e = sym (first_other bs)
+    go false e =
+        sym (first_other bs ∙ omega (arith, prefix_len-le-length (λ b. not (not (is_character b))) bs, ltb-false (position_or_len (λ b. not (is_character b)) bs) (length bs) e))
 
 -- A scan of texts that begin at a place: what is left of it.
 pub record Scanning (bs : List ℕ) (from count room end left at : ℕ) : Type 0 where
@@ -141,6 +120,13 @@ pub record Scanning (bs : List ℕ) (from count room end left at : ℕ) : Type 0
   pub within : at ≤ end
   pub last : end ≤ length bs
   pub whole : texts_end_in bs room count from ≡ texts_end (take (end - at) (drop at bs)) left at
+
+-- Where the place lies past the end there are no texts.
+pub scan_past : (bs : List ℕ) (from count room : ℕ) → length bs < from → None ≡ option_of (texts_end_in bs room count from)
+unfolding texts_end
+scan_past bs from count room h =
+    let none_left : drop from bs ≡ [] = drop_of_length-le bs {i = from} (omega (arith, h)) in
+    sym (ap (λ l. option_of (texts_end (take room l) count from)) none_left ∙ ap (λ l. option_of (texts_end l count from)) (take-nil room))
 
 module _ {bs : List ℕ} {from count room end : ℕ} where
   pub scan_begins : from ≤ length bs → end ≡ from + min room (length bs - from) → Scanning bs from count room end count from

@@ -1,7 +1,10 @@
 -- No public promise is stated by these definitions: they follow the code step by step.
 -- The check of a tree. That it comes to `is_tree` is proved in proofs/CheckLaws.
-use Rattle.std.specs.Prelude.{ℕ, zero, suc, ◌-◌, Bool, true, false, cond, ◌&&◌, List, [], ◌∷◌, ◌++◌, length, get_or, take, drop, eqb, ltb, leb}
+use Rattle.std.specs.Prelude.{ℕ, zero, suc, ◌≡◌, ◌<◌, ◌+◌, ◌*◌, ◌-◌, Bool, true, false, cond, ◌&&◌, List, [], ◌∷◌, ◌++◌, length, get_or, take, drop, eqb, ltb, leb}
+use Rattle.std.specs.Prelude as std
+use denote.Bor.{Bor}
 use Rattle.std.proofs.Math.Option.{Option, none, some}
+use Rattle.protocol.specs.Refusal.{option_of}
 use Rattle.protocol.specs.Numbers.{standard, enumeration, max_depth, name_room, max_nodes, max_properties, max_option, max_texts}
 use Rattle.protocol.specs.Tree.{Property, is_character, standard_fits, live_sound}
 use Rattle.tree.specs.Form.{node_size, property_size, properties_start, texts_start}
@@ -55,6 +58,17 @@ module _ (size : ℕ) (recordEnd : List ℕ → ℕ → Option ℕ) where
   unfoldable pub records_end : ℕ → List ℕ → ℕ → Option ℕ
   records_end zero r at = some at
   records_end (suc n) r at = and_then (recordEnd r at) (λ next. records_end n (drop size r) next)
+
+-- The end of so many records as code finds it, whose `post` tells of each what `recordEnd` tells of its bytes.
+module _ (post : Bor (List ℕ) → ℕ → ℕ → std.Option ℕ → Type 0) (bs : List ℕ) (count : ℕ) where
+  abbrev pub Tells : ℕ → ℕ → (List ℕ → ℕ → Option ℕ) → Type 0
+  Tells size from recordEnd =
+      (t : Bor (List ℕ)) (k at : ℕ) (o : std.Option ℕ) → t.now ≡ bs → k < count → post t k at o → o ≡ option_of (recordEnd (drop (from + k * size) bs) at)
+
+  abbrev pub RecordsEnd : ℕ → std.Option ℕ → Type 0
+  RecordsEnd start r =
+      (size from : ℕ) (recordEnd : List ℕ → ℕ → Option ℕ) → Tells size from recordEnd
+      → r ≡ option_of (records_end size recordEnd count (drop from bs) start)
 
 -- Parents, each of which stands before its child, and depths: those of the nodes passed are known.
 unfoldable pub depths_fit : List ℕ → List ℕ → Bool

@@ -12,29 +12,17 @@ pub(crate) fn parents_sound(tree: &[u8]) -> bool
     ensures { result ≡ (leb (node_count tree.now) 64 && parents_fit (parents_in tree.now)) }
 {
     let nodes = usize::from(bytes::byte_at(tree, 0));
-    if MAX_NODES < nodes {
-        return false;
-    }
-    if nodes == 0 {
-        return false;
-    }
-    if bytes::byte_at(tree, 2) != 0 {
+    if MAX_NODES < nodes || nodes == 0 || bytes::byte_at(tree, 2) != 0 {
         return false;
     }
     let mut depths = [0u8; 64];
     depths[0] = 1;
-    let mut k = 1;
-    while k < nodes {
+    for k in 1..nodes {
         let parent = usize::from(bytes::byte_at(tree, 2 + k * NODE_SIZE));
-        if k <= parent {
+        if k <= parent || MAX_DEPTH <= usize::from(depths[parent]) {
             return false;
         }
-        let depth = depths[parent];
-        if MAX_DEPTH <= usize::from(depth) {
-            return false;
-        }
-        depths[k] = depth + 1;
-        k += 1;
+        depths[k] = depths[parent] + 1;
     }
     true
 }

@@ -1,5 +1,6 @@
 // Texts in lent bytes, each ended by a zero: their end found.
-ghost use Rattle.std.specs.Prelude.{◌≡◌, ◌+◌, ◌-◌, ◌≤◌, min, length, take, drop};
+ghost use Rattle.std.specs.Prelude.{◌≡◌, not};
+ghost use Rattle.std.specs.List.{position};
 ghost use Rattle.protocol.specs.Tree.{is_character};
 ghost use Rattle.protocol.specs.Refusal.{option_of};
 ghost use Rattle.soundness.specs.Check.{characters_in, texts_end_in};
@@ -10,62 +11,34 @@ use protocol::{FIRST_CHARACTER, LAST_CHARACTER};
 fn is_character(b: u8) -> bool
     ensures { result ≡ is_character b }
 {
-    if b < FIRST_CHARACTER {
-        return false;
-    }
-    b <= LAST_CHARACTER
+    (FIRST_CHARACTER..=LAST_CHARACTER).contains(&b)
 }
 
-// The place of the first byte from a place on that is no character, or the end. Two bytes are looked at in a round.
-fn characters_end(tree: &[u8], from: usize, end: usize) -> usize
-    requires { (from ≤ end) × (end ≤ length tree.now) }
-    ensures { result ≡ from + characters_in (take (end - from) (drop from tree.now)) }
+// Where the first byte stands that is no character.
+fn first_other(bs: &[u8]) -> Option<usize>
+    ensures { result ≡ position (λ b. not (is_character b)) bs.now }
 {
-    let mut at = from;
-    while at + 1 < end {
-        if !is_character(tree[at]) {
-            return at;
-        }
-        if !is_character(tree[at + 1]) {
-            return at + 1;
-        }
-        at += 2;
-    }
-    if end <= at {
-        return at;
-    }
-    if !is_character(tree[at]) {
-        return at;
-    }
-    at + 1
+    bs.iter().position(|b| !is_character(*b))
 }
 
-// The lesser of the end of the bytes and a place so far behind another.
-fn end_of_room(len: usize, from: usize, room: usize) -> usize
-    requires { from ≤ len }
-    ensures { result ≡ from + min room (len - from) }
+// How many characters stand in front of some bytes.
+fn characters(bs: &[u8]) -> usize
+    ensures { result ≡ characters_in bs.now }
 {
-    if room < len - from {
-        return from + room;
-    }
-    len
+    first_other(bs).unwrap_or(bs.len())
 }
 
 // The place after some texts that begin at a place and take at most so many bytes; nothing where a byte is no character, or
 // bytes or room end before the texts do.
 pub(crate) fn texts_end(tree: &[u8], from: usize, count: usize, room: usize) -> Option<usize>
-    requires { from ≤ length tree.now }
     ensures { result ≡ option_of (texts_end_in tree.now room count from) }
 {
-    let end = end_of_room(tree.len(), from, room);
+    let end = from + room.min(tree.get(from..)?.len());
     let mut left = count;
     let mut at = from;
     while at < end {
-        let stop = characters_end(tree, at, end);
-        if end <= stop {
-            return None;
-        }
-        if tree[stop] != 0 {
+        let stop = at + characters(&tree[at..end]);
+        if end <= stop || tree[stop] != 0 {
             return None;
         }
         at = stop + 1;
