@@ -1,13 +1,13 @@
 -- Records checked one after the other, each from where the texts of the one before ended.
 -- Assumes nothing.
-use Prim.Native.Nat.{ℕ, zero, suc, ◌+◌, ◌-◌, ◌*◌, ◌<◌, ◌≤◌}
+use Prim.Native.Nat.{ℕ, suc, ◌+◌, ◌-◌, ◌*◌, ◌<◌, ◌≤◌}
 use native.Mathlib.Omega.{arith}
 use native.Mathlib.Nat.{zero-mul, suc-mul, sub-zero, add-zero, add_assoc}
 use native.Mathlib.Numerals.{add-one}
 use mathlib.Core.Path.{◌≡◌, refl, sym, ap, ap₂, subst, ◌∙◌}
 use mathlib.Core.Bool.{Bool, true, false, cond, not, ◌&&◌, and-true, and-false}
 use mathlib.Core.List.{List}
-use mathlib.Core.Option.{Option, none, some, some-injective}
+use mathlib.Core.Option.{Option, none, some}
 use borrow.Author.Tests.{leb-true, le-leb, lt-leb, eq-eqb, ne_eqb}
 use lib.ListN.{length, get_or, drop}
 use lib.Seq.{drop-drop}
@@ -24,12 +24,10 @@ use Rattle.tree.specs.declared.record.Fields.{Fields}
 use Rattle.tree.specs.Form.{node_size, property_size, properties_start, texts_start}
 use Rattle.tree.specs.Seen.{half_at, word_at, seen, node_count, property_count, property_seen, option_count}
 use Rattle.tree.specs.Lookup.{FieldsAre, numbers_of}
-use Rattle.tree.proofs.FoundLaws.{found_at, found_none, if_some}
+use Rattle.tree.proofs.FoundLaws.{found_at, found_none}
 use Rattle.tree.proofs.NumberLaws.{half_behind}
 use Rattle.tree.proofs.FieldLaws.{property_at_lem, name_place}
 use Rattle.soundness.specs.Check.{texts_end_in, and_then, node_end, kind_fits, fields_fit, property_end, records_end, parents_fit, parents_in, counts_fit, texts_fit, ends_at, checked}
-use Rattle.soundness.proofs.ThenLaws.{then_back}
-use Rattle.soundness.proofs.TextLaws.{texts-within}
 
 -- A node's record: its name lies elsewhere, or here.
 module _ (bs r : List ℕ) (at : ℕ) where
@@ -40,10 +38,6 @@ module _ (bs r : List ℕ) (at : ℕ) where
   node_here : half_at 1 r ≡ at → node_end bs r at ≡ texts_end_in bs name_room 1 at
   unfolding node_end
   node_here h = rw (eq-eqb (half_at 1 r) at h)
-
-  pub node_within : {next : ℕ} → at ≤ length bs → node_end bs r at ≡ some next → next ≤ length bs
-  unfolding node_end
-  node_within h e = texts-within bs name_room 1 at h (if_some (eqb (half_at 1 r) at) e).1
 
 module _ (bs : List ℕ) (k at : ℕ) where
   pub node_elsewhere : (half_at (3 + k * node_size) bs ≡ at → ⊥) → None ≡ option_of (node_end bs (drop (2 + k * node_size) bs) at)
@@ -157,14 +151,6 @@ module _ (bs r : List ℕ) (at : ℕ) where
 
   texts_follow : fields_fit (node_count bs) (property_seen bs r) ≡ true → half_at 14 r ≡ at → property_end bs r at ≡ both_texts
   texts_follow e h = property_by e (eq-eqb (half_at 14 r) at h)
-
-  pub property_within : {next : ℕ} → at ≤ length bs → property_end bs r at ≡ some next → next ≤ length bs
-  unfolding property_end
-  property_within h e =
-      let both = if_some (fields_fit (node_count bs) (property_seen bs r) && eqb (half_at 14 r) at) e in
-      let count : ℕ = option_count (get_or r 1 0) (word_at 6 r) in
-      let steps = then_back (texts_end_in bs name_room 1 at) (λ mid. texts_end_in bs max_texts count mid) both.1 in
-      texts-within bs max_texts count steps.0 (texts-within bs name_room 1 at h steps.1.0) steps.1.1
 
 -- The same of the record at a place, by the numbers that were read there.
 module _ (bs : List ℕ) (k at : ℕ) {f : Fields} {nodes : ℕ} (n : nodes ≡ node_count bs) (h : k < property_count bs) (w : FieldsAre (property_in (seen bs) k) f) where

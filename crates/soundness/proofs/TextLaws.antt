@@ -4,14 +4,12 @@ use Prim.Native.Nat.{ℕ, zero, suc, ◌+◌, ◌-◌, ◌<◌, ◌≤◌, min}
 use native.Mathlib.Omega.{arith}
 use native.Mathlib.Nat.{not-suc-le-zero, zero-min, suc-min-suc, add-zero, sub-zero}
 use native.Mathlib.Numerals.{add-one}
-use mathlib.Core.Path.{◌≡◌, refl, sym, ap, ap₂, subst, ◌∙◌}
+use mathlib.Core.Path.{◌≡◌, refl, sym, ap, ap₂, ◌∙◌}
 use mathlib.Core.Bool.{Bool, true, false, cond}
 use mathlib.Core.List.{List, [], ◌∷◌}
-use mathlib.Core.Option.{none, some, none-ne-some, some-injective}
 use borrow.Author.Tests.{ne_eqb}
 use lib.ListN.{length, get_or, take, drop, length-take, length-drop, drop_of_length-le}
 use lib.Seq.{drop-cons, drop-drop, take-nil, get_or-drop, get_or-take, length-take-le}
-use lib.Dec.{eqb, leb}
 use Rattle.protocol.specs.Tree.{is_character}
 use Rattle.std.proofs.Common.{Some, None, not, ltb, ltb-false}
 use Rattle.std.specs.Option.{unwrap_or}
@@ -27,26 +25,6 @@ take_min : (n : ℕ) (l : List ℕ) → take (min n (length l)) l ≡ take n l
 take_min zero l = ap (λ m. take m l) (zero-min (length l))
 take_min (suc n) [] = take-nil (min (suc n) 0)
 take_min (suc n) (x ∷ l) = ap (λ m. take m (x ∷ l)) (suc-min-suc n (length l)) ∙ ap (λ t. x ∷ t) (take_min n l)
-
--- Texts end where their bytes do, or before.
-texts_most : (bs : List ℕ) (left at : ℕ) {end : ℕ} → texts_end bs left at ≡ some end → end ≤ at + length bs
-unfolding texts_end
-texts_most [] left at h = absurd (none-ne-some _ h)
-texts_most (b ∷ bs) left at {end} h =
-    most (eqb b 0) (leb left 1) (is_character b) (texts_most bs (left - 1) (suc at)) (texts_most bs left (suc at)) h
-  where
-    most : (z l u : Bool) → (texts_end bs (left - 1) (suc at) ≡ some end → end ≤ suc at + length bs)
-        → (texts_end bs left (suc at) ≡ some end → end ≤ suc at + length bs)
-        → cond z (cond l (some (suc at)) (texts_end bs (left - 1) (suc at))) (cond u (texts_end bs left (suc at)) none) ≡ some end
-        → end ≤ at + length (b ∷ bs)
-    most true true u f g e = omega (arith, some-injective _ _ e)
-    most true false u f g e = omega (arith, f e)
-    most false l true f g e = omega (arith, g e)
-    most false l false f g e = absurd (none-ne-some _ e)
-
-pub texts-within : (bs : List ℕ) (room left at : ℕ) {end : ℕ} → at ≤ length bs → texts_end_in bs room left at ≡ some end → end ≤ length bs
-texts-within bs room left at h e =
-    omega (arith, texts_most (take room (drop at bs)) left at e, length-take room (drop at bs), length-drop at bs)
 
 -- The bytes from a place to an end, without some of them, and the first of them.
 drop-take : (n m : ℕ) (l : List ℕ) → drop n (take m l) ≡ take (m - n) (drop n l)

@@ -1,9 +1,8 @@
 -- `soundness::texts_fit` meets its contract. Assumes nothing.
 use native.Mathlib.Omega.{arith}
 use Prim.Native.Nat.{◌+◌, ◌*◌}
-use mathlib.Core.Path.{◌≡◌, refl, sym, ap, ap₂, ◌∙◌}
+use mathlib.Core.Path.{◌≡◌, ap, ap₂, ◌∙◌}
 use lib.ListN.{drop}
-use Rattle.std.proofs.Common.{Some, None}
 use Rattle.protocol.specs.Refusal.{option_of}
 use Rattle.tree.specs.Form.{node_size, property_size, properties_start, texts_start}
 use Rattle.tree.specs.Seen.{node_count, property_count}

@@ -12,8 +12,8 @@ returns-then-nodes-gt-MAX_NODES c =
       | then-nodes-gt-MAX_NODES-via-then-nodes-gt-MAX_NODES w ↦ too_many c.args.tree.now (omega arith)
       | then-nodes-gt-MAX_NODES-via-else-nodes-gt-MAX_NODES+then-nodes-eq0 w ↦ no_device c.args.tree.now (omega arith)
       | then-nodes-gt-MAX_NODES-via-else-nodes-gt-MAX_NODES+else-nodes-eq0+then-byte_at-ne0 w ↦
-        device_elsewhere c.args.tree.now (omega arith) (omega arith)
-        (differ w.byte_at-else-nodes-eq0.ensures refl w.if-byte_at-ne0.true)
+          device_elsewhere c.args.tree.now (omega arith) (omega arith)
+          (differ w.byte_at-else-nodes-eq0.ensures refl w.if-byte_at-ne0.true)
     ]
 
 pub loop-k-init : goal.loop-k-init
@@ -28,7 +28,7 @@ returns-then-k-parent c =
     elim c.then-k-parent.branch [
       | then-k-parent-via-then-k-parent w ↦ descend_behind c.loop-k.invariant c.loop-k-test.true parent w.if-k-parent.true
       | then-k-parent-via-else-k-parent+then-from-ge-MAX_DEPTH w ↦
-        descend_deep c.loop-k.invariant c.loop-k-test.true parent w.if-k-parent.false (omega (arith, w.if-from-ge-MAX_DEPTH.true, w.from.ensures))
+          descend_deep c.loop-k.invariant c.loop-k-test.true parent w.if-k-parent.false (omega (arith, w.if-from-ge-MAX_DEPTH.true, w.from.ensures))
     ]
 
 pub loop-k-preserved : goal.loop-k-preserved

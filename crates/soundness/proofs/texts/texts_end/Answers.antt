@@ -32,8 +32,8 @@ returns-then-end-stop c =
     elim c.then-end-stop.branch [
       | then-end-stop-via-then-end-stop w ↦ scan_out behind w.if-end-stop.true
       | then-end-stop-via-else-end-stop+then-tree-stop-ne0 w ↦
-        scan_bad behind w.if-end-stop.false w.if-tree-stop-ne0.true
-        (scan_stop c.loop-at.invariant (ap (λ n. c.loop-at.at + n) c.characters.ensures) w.if-end-stop.false)
+          scan_bad behind w.if-end-stop.false w.if-tree-stop-ne0.true
+          (scan_stop c.loop-at.invariant (ap (λ n. c.loop-at.at + n) c.characters.ensures) w.if-end-stop.false)
     ]
 
 pub returns-then-left-le1 : goal.returns-then-left-le1
