@@ -1,25 +1,28 @@
 -- The lines of a sheet, one after the other: looked at, and stored.
 -- Assumes nothing.
-use Prim.Native.Nat.{ℕ, ◌+◌, ◌*◌, ◌<◌, ◌≤◌}
+use Prim.Native.Nat.{ℕ, ◌≤◌}
 use native.Mathlib.Omega.{arith}
 use mathlib.Core.Path.{◌≡◌, refl, sym, ap, ap₂, ◌∙◌}
-use mathlib.Core.Bool.{Bool, true, false, cond, ◌&&◌}
+use mathlib.Core.Bool.{Bool, true, false, cond, ◌&&◌, false≢true}
 use mathlib.Core.List.{List, [], ◌∷◌}
 use borrow.Author.Tests.{eq-eqb, ne_eqb, eqb-true}
-use lib.ListN.{length, drop, set, length-drop, length-set}
-use lib.Seq.{drop-drop}
+use lib.ListN.{length, drop, set}
 use lib.Dec.{eqb}
+use Rattle.std.proofs.Common.{Option, Some, None}
+use Rattle.std.specs.Option.{IsSome, is_some}
 use Rattle.protocol.specs.Numbers.{done, bad_sheet, not_in_range}
 use Rattle.protocol.specs.Tree.{Tree, Cell, property_in, cell_in}
 use Rattle.protocol.specs.Answer.{stored}
-use Rattle.protocol.specs.Sheet.{is_setting, may_hold, settings_of, is_line, line_size, line_word, line_in_range, is_sheet, all_in_range, sheet_number, loaded}
-use Rattle.protocol.proofs.LoadLaws.{line_inside}
-use Rattle.cells.specs.Cells.{cell_size, cells_form, cells_in, has_cells, with_word}
-use Rattle.cells.proofs.CellLaws.{form_of, cells_size_lem, word-stored}
-use Rattle.sheet.specs.Steps.{settings_from, NextSetting, LineIs}
-use Rattle.sheet.specs.declared.read.Line.{Line}
-use Rattle.sheet.proofs.SettingLaws.{settings_all, settings_here, settings_end}
-use Rattle.sheet.proofs.ReadLaws.{line_range, line_stores}
+use Rattle.protocol.specs.Sheet.{settings_of, is_line, line_size, line_word, line_in_range, is_sheet, all_in_range, sheet_number, loaded}
+use Rattle.tree.specs.Seen.{seen}
+use Rattle.cells.specs.Cells.{cells_form, cells_in, has_cells, with_word}
+use Rattle.cells.proofs.CellLaws.{form_of, word-stored}
+use Rattle.text.specs.Read.{told_of}
+use Rattle.text.specs.declared.read.Numeral.{Numeral}
+use Rattle.sheet.specs.declared.setting.Settings.{Settings}
+use Rattle.sheet.specs.Steps.{rest, LineIs, is_held}
+use Rattle.sheet.proofs.SettingLaws.{Next, Starts, starts_all}
+use Rattle.sheet.proofs.ReadLaws.{line_size_lem, line-fits, line_range, line_stores}
 
 -- The number so far, and that of the lines behind: 17 comes before 18.
 unfoldable pub worse : ℕ → ℕ → ℕ
@@ -67,73 +70,74 @@ module _ (t : Tree) (k : ℕ) (ks bs : List ℕ) where
   unfolding sheet_number is_sheet
   sheet_other l = rw l
 
--- The lines before a setting were looked at, and what is left of the sheet begins at a place.
-pub record Checking (t : Tree) (bs : List ℕ) (number at k : ℕ) : Type 0 where
-  pub inside : at ≤ length bs
-  pub is : k < length t.properties → is_setting (property_in t k) ≡ true
-  pub decides : sheet_number t (settings_of t) bs ≡ worse number (sheet_number t (settings_from t k) (drop at bs))
+-- What the lines so far come to: 18 where one was not in range.
+abbrev pub so_far : Bool → ℕ
+so_far in_range = cond in_range done not_in_range
+
+so_far_on : (a b : Bool) → cond b (so_far a) not_in_range ≡ so_far (a && b)
+so_far_on true true = refl
+so_far_on true false = refl
+so_far_on false true = refl
+so_far_on false false = refl
+
+-- The lines before a setting were looked at, and so much is left of the sheet.
+pub record Checking (t : Tree) (bs : List ℕ) (in_range : Bool) (left : List ℕ) (s : Settings) : Type 0 where
+  pub tree : seen s.tree.now ≡ t
+  pub decides : sheet_number t (settings_of t) bs ≡ worse (so_far in_range) (sheet_number t (rest s) left)
 
 module _ (t : Tree) (bs : List ℕ) where
-  pub check_begins : {k : ℕ} → NextSetting t 0 k → Checking t bs done 0 k
-  check_begins {k} n =
+  pub check_begins : {s : Settings} → Starts t 0 s → Checking t bs true bs s
+  check_begins {s} b =
       record {
-        inside = omega arith;
-        is = n.is;
-        decides = ap (λ ks. sheet_number t ks bs) (settings_all t ∙ n.same) ∙ sym (worse_done (sheet_number t (settings_from t k) bs));
+        tree = b.tree;
+        decides = ap (λ ks. sheet_number t ks bs) (starts_all b) ∙ sym (worse_done (sheet_number t (rest s) bs));
       }
 
-  module _ {number at k : ℕ} (c : Checking t bs number at k) where
-    here : k < length t.properties
-        → sheet_number t (settings_of t) bs ≡ worse number (sheet_number t (k ∷ settings_from t (k + 1)) (drop at bs))
-    here h = c.decides ∙ ap (λ ks. worse number (sheet_number t ks (drop at bs))) (settings_here t h (c.is h))
+  module _ {in_range : Bool} {left : List ℕ} {s : Settings} (c : Checking t bs in_range left s) where
+    module _ {k : ℕ} {n : Settings} (next : Next t s k n) where
+      here : sheet_number t (settings_of t) bs ≡ worse (so_far in_range) (sheet_number t (k ∷ rest n) left)
+      here = c.decides ∙ ap (λ ks. worse (so_far in_range) (sheet_number t ks left)) next.first
 
-    module _ (h : k < length t.properties) {r : Line} (l : LineIs (property_in t k) (drop at bs) r) where
-      pub check_fails : r.is ≡ false → bad_sheet ≡ sheet_number t (settings_of t) bs
+      pub check_fails : LineIs (property_in t k) left None → bad_sheet ≡ sheet_number t (settings_of t) bs
       unfolding worse
-      check_fails e =
-          sym (here h ∙ ap (worse number) (sheet_other t k (settings_from t (k + 1)) (drop at bs) (sym l.is ∙ e)))
+      check_fails l = sym (here ∙ ap (worse (so_far in_range)) (sheet_other t k (rest n) left (sym l.told.is)))
 
-      pub line-ends : r.is ≡ true → at + r.size ≤ length bs
-      line-ends e =
-          omega (
-            arith,
-            l.bytes e,
-            line_inside (property_in t k) (drop at bs) (sym l.is ∙ e),
-            length-drop at bs,
-            c.inside,
-          )
+      module _ {m : Numeral} (line : LineIs (property_in t k) left (Some m)) where
+        pub line-ends : m.size ≤ length left
+        line-ends = line-fits line
 
-      pub check_on : {n j : ℕ} {b : Bool} → r.is ≡ true → b ≡ (r.fits && may_hold (property_in t k) r.word) → n ≡ cond b number not_in_range
-          → NextSetting t (k + 1) j → Checking t bs n (at + r.size) j
-      check_on {n} {j} {b} e i f m =
-          record {
-            inside = line-ends e;
-            is = m.is;
-            decides =
-                here h
-                ∙ ap (worse number) (sheet-line t k (settings_from t (k + 1)) (drop at bs) (sym l.is ∙ e) (line_range l e i))
-                ∙ worse_line b number _
-                ∙ ap₂ (λ a xs. worse a (sheet_number t (settings_from t (k + 1)) xs)) (sym f)
-                (drop-drop (line_size (property_in t k) (drop at bs)) at bs ∙ ap (λ i. drop (at + i) bs) (sym (l.bytes e)))
-                ∙ ap (λ ks. worse n (sheet_number t ks (drop (at + r.size) bs))) m.same;
-          }
+        pub check_on : {b u : Bool} {left' : List ℕ} → b ≡ is_held (property_in t k) m.word → u ≡ (in_range && b) → left' ≡ drop m.size left
+            → Checking t bs u left' n
+        check_on {b} {u} f g h =
+            record {
+              tree = next.tree;
+              decides =
+                  here
+                  ∙ ap (worse (so_far in_range)) (sheet-line t k (rest n) left (sym line.told.is) (f ∙ line_range line))
+                  ∙ worse_line b (so_far in_range) _
+                  ∙ ap₂ (λ a xs. worse a (sheet_number t (rest n) xs)) (so_far_on in_range b ∙ sym (ap so_far g))
+                  (sym (h ∙ ap (λ i. drop i left) (line_size_lem line)));
+            }
 
-    ended : length t.properties ≤ k → sheet_number t (settings_of t) bs ≡ worse number (sheet_number t [] (drop at bs))
-    ended h = c.decides ∙ ap (λ ks. worse number (sheet_number t ks (drop at bs))) (settings_end t h)
+    module _ (none : rest s ≡ []) where
+      ended : sheet_number t (settings_of t) bs ≡ worse (so_far in_range) (sheet_number t [] left)
+      ended = c.decides ∙ ap (λ ks. worse (so_far in_range) (sheet_number t ks left)) none
 
-    pub check_surplus : length t.properties ≤ k → at < length bs → bad_sheet ≡ sheet_number t (settings_of t) bs
-    unfolding sheet_number is_sheet worse
-    check_surplus h s =
-        sym (ended h ∙ rw (ne_eqb (length (drop at bs)) 0 (λ e. omega (arith, e, s, length-drop at bs))))
+      pub check_surplus : (length left ≡ 0 → ⊥) → bad_sheet ≡ sheet_number t (settings_of t) bs
+      unfolding sheet_number is_sheet worse
+      check_surplus e = sym (ended ∙ rw (ne_eqb (length left) 0 e))
 
-    pub check_ends : length t.properties ≤ k → length bs ≤ at → number ≡ sheet_number t (settings_of t) bs
-    unfolding sheet_number is_sheet all_in_range worse
-    check_ends h s = sym (ended h ∙ rw (eq-eqb (length (drop at bs)) 0 (omega (arith, s, length-drop at bs))))
+      pub check_ends : length left ≡ 0 → so_far in_range ≡ sheet_number t (settings_of t) bs
+      unfolding sheet_number is_sheet all_in_range worse
+      check_ends e = sym (ended ∙ rw (eq-eqb (length left) 0 e))
+
+abbrev left_of : Tree → ℕ → List ℕ → List ℕ
+left_of t k bs = drop (line_size (property_in t k) bs) bs
 
 -- A good sheet: its first line, and what is left of it.
 module _ (t : Tree) (k : ℕ) (ks bs : List ℕ) where
   abbrev left : List ℕ
-  left = drop (line_size (property_in t k) bs) bs
+  left = left_of t k bs
 
   good_line : sheet_number t (k ∷ ks) bs ≡ done
       → (is_line (property_in t k) bs ≡ true) × ((line_in_range (property_in t k) bs ≡ true) × (sheet_number t ks left ≡ done))
@@ -149,74 +153,73 @@ module _ (t : Tree) (k : ℕ) (ks bs : List ℕ) where
       go false s r a e = absurd (omega (arith, e))
 
 -- The lines before a setting were stored, which leaves these cells.
-pub record Storing (t : Tree) (bs old cells : List ℕ) (at k : ℕ) : Type 0 where
-  pub inside : at ≤ length bs
-  pub is : k < length t.properties → is_setting (property_in t k) ≡ true
-  pub good : sheet_number t (settings_from t k) (drop at bs) ≡ done
+pub record Storing (t : Tree) (bs old cells left : List ℕ) (s : Settings) : Type 0 where
+  pub tree : seen s.tree.now ≡ t
+  pub good : sheet_number t (rest s) left ≡ done
   pub now : List Cell
   pub bytes : cells ≡ cells_form now
-  pub size : length cells ≡ length old
-  pub on : loaded t (settings_of t) bs (cells_in old) ≡ loaded t (settings_from t k) (drop at bs) now
+  pub on : loaded t (settings_of t) bs (cells_in old) ≡ loaded t (rest s) left now
 
 module _ (t : Tree) (bs old : List ℕ) where
-  pub store_begins : {k : ℕ} → has_cells old ≡ true → sheet_number t (settings_of t) bs ≡ done → NextSetting t 0 k → Storing t bs old old 0 k
-  store_begins {k} f g n =
+  pub store_begins : {s : Settings} → has_cells old ≡ true → sheet_number t (settings_of t) bs ≡ done → Starts t 0 s → Storing t bs old old bs s
+  store_begins f g b =
       record {
-        inside = omega arith;
-        is = n.is;
-        good = ap (λ ks. sheet_number t ks bs) (sym (settings_all t ∙ n.same)) ∙ g;
+        tree = b.tree;
+        good = ap (λ ks. sheet_number t ks bs) (sym (starts_all b)) ∙ g;
         now = cells_in old;
         bytes = form_of old f;
-        size = refl;
-        on = ap (λ ks. loaded t ks bs (cells_in old)) (settings_all t ∙ n.same);
+        on = ap (λ ks. loaded t ks bs (cells_in old)) (starts_all b);
       }
 
-  module _ {cells : List ℕ} {at k : ℕ} (s : Storing t bs old cells at k) (h : k < length t.properties) {r : Line}
-      (l : LineIs (property_in t k) (drop at bs) r) where
-    parts : (is_line (property_in t k) (drop at bs) ≡ true)
-        × ((line_in_range (property_in t k) (drop at bs) ≡ true) × (sheet_number t (settings_from t (k + 1)) (left t k (settings_from t (k + 1)) (drop at bs)) ≡ done))
-    parts =
-        good_line t k (settings_from t (k + 1)) (drop at bs)
-        (ap (λ ks. sheet_number t ks (drop at bs)) (sym (settings_here t h (s.is h))) ∙ s.good)
+  module _ {cells left : List ℕ} {s : Settings} (c : Storing t bs old cells left s) {k : ℕ} {n : Settings} (next : Next t s k n) where
+    parts : (is_line (property_in t k) left ≡ true)
+        × ((line_in_range (property_in t k) left ≡ true) × (sheet_number t (rest n) (left_of t k left) ≡ done))
+    parts = good_line t k (rest n) left (ap (λ ks. sheet_number t ks left) (sym next.first) ∙ c.good)
 
-    is_line_lem : r.is ≡ true
-    is_line_lem = l.is ∙ parts.0
+    -- There is a line.
+    pub line_there : {r : Option Numeral} → LineIs (property_in t k) left r → IsSome r
+    line_there {r} l = told_some r (l.told.is ∙ parts.0)
+      where
+        told_some : (r : Option Numeral) → (told_of r).is ≡ true → IsSome r
+        told_some None h = absurd (false≢true h)
+        told_some (Some m) h = refl
 
-    behind : left t k (settings_from t (k + 1)) (drop at bs) ≡ drop (at + r.size) bs
-    behind = drop-drop (line_size (property_in t k) (drop at bs)) at bs ∙ ap (λ i. drop (at + i) bs) (sym (l.bytes is_line_lem))
+    module _ {r : Option Numeral} (l : LineIs (property_in t k) left r) {m : Numeral} (e : r ≡ Some m) where
+      line : LineIs (property_in t k) left (Some m)
+      line = rw e at l
 
-    pub stored-ends : at + r.size ≤ length bs
-    stored-ends =
-        omega (arith, l.bytes is_line_lem, line_inside (property_in t k) (drop at bs) parts.0, length-drop at bs, s.inside)
+      pub stored-ends : m.size ≤ length left
+      stored-ends = line-fits line
 
-    pub store_on : {new : List ℕ} {j : ℕ} → new ≡ with_word k r.word cells → NextSetting t (k + 1) j → Storing t bs old new (at + r.size) j
-    unfolding loaded
-    store_on {new} {j} e n =
-        let next : List Cell = set s.now k (stored (cell_in s.now k) r.word) in
-        let form : new ≡ cells_form next = e ∙ ap (with_word k r.word) s.bytes ∙ word-stored s.now k r.word in
-        let word : r.word ≡ line_word (property_in t k) (drop at bs) = line_stores l is_line_lem parts.1.0 in
-        record {
-          inside = stored-ends;
-          is = n.is;
-          good = ap₂ (sheet_number t) (sym n.same) (sym behind) ∙ parts.1.1;
-          now = next;
-          bytes = form;
-          size =
-              ap length form
-              ∙ cells_size_lem next
-              ∙ ap (λ m. m * cell_size) (length-set s.now k (stored (cell_in s.now k) r.word))
-              ∙ sym (cells_size_lem s.now)
-              ∙ ap length (sym s.bytes)
-              ∙ s.size;
-          on =
-              s.on
-              ∙ ap (λ ks. loaded t ks (drop at bs) s.now) (settings_here t h (s.is h))
-              ∙ ap₂ (λ xs w. loaded t (settings_from t (k + 1)) xs (set s.now k (stored (cell_in s.now k) w))) behind (sym word)
-              ∙ ap (λ ks. loaded t ks (drop (at + r.size) bs) next) n.same;
-        }
+      word_is : m.word ≡ Some (line_word (property_in t k) left)
+      word_is = line_stores line parts.1.0
 
-  pub store_ends : {cells : List ℕ} {at k : ℕ} → Storing t bs old cells at k → length t.properties ≤ k
+      pub word-there : IsSome m.word
+      word-there = ap is_some word_is
+
+      pub store_on : {new left' : List ℕ} {w : ℕ} → m.word ≡ Some w → new ≡ with_word k w cells → left' ≡ drop m.size left
+          → Storing t bs old new left' n
+      unfolding loaded
+      store_on {new} {left'} {w} f g h =
+          let store : List Cell = set c.now k (stored (cell_in c.now k) w) in
+          let word : w ≡ line_word (property_in t k) left = some_word (sym f ∙ word_is) in
+          let behind : left_of t k left ≡ left' = sym (h ∙ ap (λ i. drop i left) (line_size_lem line)) in
+          record {
+            tree = next.tree;
+            good = ap (sheet_number t (rest n)) (sym behind) ∙ parts.1.1;
+            now = store;
+            bytes = g ∙ ap (with_word k w) c.bytes ∙ word-stored c.now k w;
+            on =
+                c.on
+                ∙ ap (λ ks. loaded t ks left c.now) next.first
+                ∙ ap₂ (λ xs v. loaded t (rest n) xs (set c.now k (stored (cell_in c.now k) v))) behind (sym word);
+          }
+        where
+          some_word : {a b : ℕ} → Some a ≡ Some b → a ≡ b
+          some_word h = cc
+
+  pub store_ends : {cells left : List ℕ} {s : Settings} → Storing t bs old cells left s → rest s ≡ []
       → cells ≡ cells_form (loaded t (settings_of t) bs (cells_in old))
   unfolding loaded
-  store_ends {at = at} s h =
-      s.bytes ∙ ap cells_form (sym (s.on ∙ ap (λ ks. loaded t ks (drop at bs) s.now) (settings_end t h)))
+  store_ends {left = left} c h =
+      c.bytes ∙ ap cells_form (sym (c.on ∙ ap (λ ks. loaded t ks left c.now) h))

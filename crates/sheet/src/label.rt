@@ -6,32 +6,15 @@ ghost use Rattle.protocol.specs.Sheet.{settings_of, is_plain, writable};
 ghost use Rattle.tree.specs.Seen.{seen};
 ghost use Rattle.sheet.specs.Steps.{label_at, settings_from};
 
-use super::{EQUALS, setting};
+use super::setting::Settings;
 use text::read;
-use tree::{part, record};
+use tree::part;
 
 // Whether a label has no "=".
 fn is_plain(label: &[u8]) -> bool
     ensures { result ≡ is_plain label.now }
 {
-    let mut i = 0;
-    while i < label.len() {
-        if label[i] == EQUALS {
-            return false;
-        }
-        i += 1;
-    }
-    true
-}
-
-// Whether the label of the property at a place has no "=".
-fn is_plain_at(tree: &[u8], k: usize) -> bool
-    ensures { result ≡ is_plain (label_at (seen tree.now) k) }
-{
-    let label = part::label(tree, k);
-    let from = label.start;
-    let end = label.end;
-    is_plain(&tree[from..end])
+    !label.contains(&b'=')
 }
 
 // Whether a text is the label of the property at a place. Most labels differ before they end, so that their length is looked for
@@ -52,42 +35,28 @@ fn differs_behind(tree: &[u8], s: &[u8], k: usize) -> bool
     requires { k + 1 < 2 ^ 64 }
     ensures { result ≡ every (λ j. not (same_text s.now (label_at (seen tree.now) j))) (settings_from (seen tree.now) (k + 1)) }
 {
-    let count = record::property_count(tree);
-    let mut j = setting::next(tree, k + 1);
-    while j < count {
+    let behind = Settings { tree, from: k + 1 };
+    for j in behind {
         if is_label(tree, s, j) {
             return false;
         }
-        j = setting::next(tree, j + 1);
     }
     true
-}
-
-// The same for the label of the property at the place.
-fn is_unlike_later(tree: &[u8], k: usize) -> bool
-    requires { k + 1 < 2 ^ 64 }
-    ensures { result ≡ every (λ j. not (same_text (label_at (seen tree.now) k) (label_at (seen tree.now) j))) (settings_from (seen tree.now) (k + 1)) }
-{
-    let label = part::label(tree, k);
-    let from = label.start;
-    let end = label.end;
-    differs_behind(tree, &tree[from..end], k)
 }
 
 // Whether the labels of all settings can be written.
 pub(crate) fn are_writable(tree: &[u8]) -> bool
     ensures { result ≡ writable (seen tree.now) (settings_of (seen tree.now)) }
 {
-    let count = record::property_count(tree);
-    let mut k = setting::next(tree, 0);
-    while k < count {
-        if !is_plain_at(tree, k) {
+    let settings = Settings { tree, from: 0 };
+    for k in settings {
+        let label = &tree[part::label(tree, k)];
+        if !is_plain(label) {
             return false;
         }
-        if !is_unlike_later(tree, k) {
+        if !differs_behind(tree, label, k) {
             return false;
         }
-        k = setting::next(tree, k + 1);
     }
     true
 }

@@ -1,10 +1,11 @@
 // The settings of a tree.
 ghost use Rattle.std.specs.Prelude.{◌≡◌};
+ghost use Rattle.std.specs.Iterator.{item_count};
 ghost use Rattle.protocol.specs.Tree.{property_in};
 ghost use Rattle.protocol.specs.Sheet.{is_setting, may_hold};
 ghost use Rattle.tree.specs.Seen.{seen};
 ghost use Rattle.tree.specs.Lookup.{numbers_of};
-ghost use Rattle.sheet.specs.Steps.{NextSetting};
+ghost use Rattle.sheet.specs.Steps.{rest, Gives};
 
 use tree::record::Fields;
 use tree::{range, record, step};
@@ -13,10 +14,7 @@ use tree::{range, record, step};
 fn is_setting(f: Fields) -> bool
     ensures { result ≡ is_setting (numbers_of f) }
 {
-    if !f.can_read() {
-        return false;
-    }
-    f.can_write()
+    f.can_read() && f.can_write()
 }
 
 // Whether the setting at a place may hold a word: it is in range, and on its step.
@@ -24,23 +22,29 @@ pub(crate) fn may_hold(tree: &[u8], k: usize, word: u32) -> bool
     ensures { result ≡ may_hold (property_in (seen tree.now) k) word }
 {
     let f = record::read_fields(tree, k);
-    if range::in_range(f, word) {
-        return step::on_step(f, word);
-    }
-    false
+    range::in_range(f, word) && step::on_step(f, word)
 }
 
-// The place of the next setting, from a place on; behind the last property where there is none.
-pub(crate) fn next(tree: &[u8], from: usize) -> usize
-    ensures { NextSetting (seen tree.now) from result }
-{
-    let count = record::property_count(tree);
-    let mut k = from;
-    while k < count {
-        if is_setting(record::read_fields(tree, k)) {
-            return k;
+// The places of the settings that stand at a place of the list or behind it, one after the other.
+#[derive(Clone, Copy)]
+pub(crate) struct Settings<'a> {
+    pub tree: &'a [u8],
+    pub from: usize,
+}
+
+impl<'a> Iterator for Settings<'a> {
+    type Item = usize;
+
+    ghost next_gives = { Gives };
+
+    ghost remaining = { item_count rest };
+
+    fn next(&mut self) -> Option<usize> {
+        let k = record::next_where(self.tree, self.from, is_setting);
+        if record::property_count(self.tree) <= k {
+            return None;
         }
-        k += 1;
+        self.from = k + 1;
+        Some(k)
     }
-    k
 }

@@ -1,77 +1,79 @@
 // A sheet written: the words of the settings, and their lines.
 ghost use Rattle.std.specs.Prelude.{◌≡◌, true};
-ghost use Rattle.protocol.specs.Buffer.{Laid};
 ghost use Rattle.protocol.specs.Tree.{property_in, cell_in};
 ghost use Rattle.protocol.specs.Sheet.{is_setting, may_hold, setting_line, sheet, in_ranges};
 ghost use Rattle.tree.specs.Seen.{seen};
 ghost use Rattle.cells.specs.Cells.{cells_in};
-ghost use Rattle.cells.specs.Lent.{is_lent};
+ghost use Rattle.text.specs.Lays.{Lays};
 
+use super::lent::Lent;
 use super::setting;
-use cells::{Reading, cell};
-use text::line;
+use super::setting::Settings;
+use cells::cell;
+use text::line::{Value, Word};
+use text::output::Output;
 use tree::{part, range, record};
 
 // The word of a setting.
-fn word_of(tree: &[u8], cells: &[u8], k: usize) -> u32
-    requires { (is_lent tree.now cells.now ≡ true) × (is_setting (property_in (seen tree.now) k) ≡ true) }
-    ensures { result ≡ (cell_in (cells_in cells.now) k).word }
+fn word_of(lent: Lent, k: usize) -> u32
+    requires { is_setting (property_in (seen lent.tree.now) k) ≡ true }
+    ensures { result ≡ (cell_in (cells_in lent.entry.cells.now) k).word }
 {
-    match cell::reading(tree, cells, k) {
-        Reading::Word(w) => w,
-        Reading::Nothing => 0,
-    }
+    cell::reading(lent.tree, lent.cells, k).unwrap()
 }
 
 // Whether a setting holds a word in range.
-fn is_in_range(tree: &[u8], cells: &[u8], k: usize) -> bool
-    requires { (is_lent tree.now cells.now ≡ true) × (is_setting (property_in (seen tree.now) k) ≡ true) }
-    ensures { result ≡ may_hold (property_in (seen tree.now) k) (cell_in (cells_in cells.now) k).word }
+fn is_in_range(lent: Lent, k: usize) -> bool
+    requires { is_setting (property_in (seen lent.tree.now) k) ≡ true }
+    ensures { result ≡ may_hold (property_in (seen lent.entry.tree.now) k) (cell_in (cells_in lent.entry.cells.now) k).word }
 {
-    let w = word_of(tree, cells, k);
-    setting::may_hold(tree, k, w)
+    setting::may_hold(lent.tree, k, word_of(lent, k))
 }
 
 // Whether every setting holds a word in range.
-pub(crate) fn are_in_range(tree: &[u8], cells: &[u8]) -> bool
-    requires { is_lent tree.now cells.now ≡ true }
-    ensures { result ≡ in_ranges (seen tree.now) (cells_in cells.now) }
+pub(crate) fn are_in_range(lent: Lent) -> bool
+    ensures { result ≡ in_ranges (seen lent.entry.tree.now) (cells_in lent.entry.cells.now) }
 {
-    let count = record::property_count(tree);
-    let mut k = setting::next(tree, 0);
-    while k < count {
-        if !is_in_range(tree, cells, k) {
+    let settings = Settings {
+        tree: lent.tree,
+        from: 0,
+    };
+    for k in settings {
+        if !is_in_range(lent, k) {
             return false;
         }
-        k = setting::next(tree, k + 1);
     }
     true
 }
 
 // The line of a setting.
-fn put_line(tree: &[u8], cells: &[u8], k: usize, out: &mut [u8], at: usize) -> usize
-    requires { (is_lent tree.now cells.now ≡ true) × (is_setting (property_in (seen tree.now) k) ≡ true) }
-    ensures { Laid at (setting_line (property_in (seen tree.now) k) (cell_in (cells_in cells.now) k).word) out.old result out.new }
+fn put_setting(lent: Lent, k: usize, output: &mut Output)
+    requires { is_setting (property_in (seen lent.tree.now) k) ≡ true }
+    ensures { Lays (setting_line (property_in (seen lent.entry.tree.now) k) (cell_in (cells_in lent.entry.cells.now) k).word) output.old output.new }
 {
-    let signed = range::takes_sign(record::read_fields(tree, k));
-    let w = word_of(tree, cells, k);
-    let label = part::label(tree, k);
-    let from = label.start;
-    let end = label.end;
-    line::put_word(&tree[from..end], signed, w, out, at)
+    let word = Word {
+        signed: range::takes_sign(record::read_fields(lent.tree, k)),
+        word: word_of(lent, k),
+    };
+    output.put_line(&lent.tree[part::label(lent.tree, k)], word);
 }
 
-// The lines of all settings, in list order, from the front of an output.
-pub(crate) fn put_lines(tree: &[u8], cells: &[u8], out: &mut [u8]) -> usize
-    requires { is_lent tree.now cells.now ≡ true }
-    ensures { Laid 0 (sheet (seen tree.now) (cells_in cells.now)) out.old result out.new }
-{
-    let properties = record::property_count(tree);
-    let mut at = 0;
-    let mut k = setting::next(tree, 0);
-    while k < properties {
-        at = put_line(tree, cells, k, out, at);
-        k = setting::next(tree, k + 1);
+// A sheet: the lines of all settings, in list order.
+#[derive(Clone, Copy)]
+pub(crate) struct Sheet<'a> {
+    pub lent: Lent<'a>,
+}
+
+impl<'a> Value for Sheet<'a> {
+    ghost shown = { λ s. sheet (seen s.lent.tree.now) (cells_in s.lent.cells.now) };
+
+    fn put(self, output: &mut Output) {
+        let settings = Settings {
+            tree: self.lent.tree,
+            from: 0,
+        };
+        for k in settings {
+            put_setting(self.lent, k, output);
+        }
     }
-    at
 }

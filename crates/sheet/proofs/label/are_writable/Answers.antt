@@ -1,44 +1,33 @@
 -- `sheet::label::are_writable` meets its contract. Assumes nothing.
-use Prim.Native.Nat.{◌<◌}
 use native.Mathlib.Omega.{arith}
-use lib.ListN.{length}
 use Rattle.tree.specs.Seen.{seen}
+use Rattle.tree.proofs.FieldLaws.{property_count_lem}
+use Rattle.sheet.proofs.SettingLaws.{starts, next_of}
 use Rattle.sheet.proofs.LabelLaws.{writing_begins, equals_in, repeated, writing_on, writing_ends}
 use Rattle.sheet.proofs.label.are_writable.Goals as goal
-use Rattle.sheet.proofs.label.are_writable.Goals.{In-loop-k}
-
--- There is a property.
-listed : (c : In-loop-k) → c.loop-k.k < length (seen c.args.tree.now).properties
-listed c =
-    omega (arith, c.loop-k-test.true, c.property_count-count.ensures)
 
 pub loop-k-init : goal.loop-k-init
-loop-k-init c = writing_begins (seen c.args.tree.now) c.next-k.ensures
+loop-k-init c = writing_begins (seen c.args.tree.now) (starts c.args.tree c.into_iter-k-iterator.ensures.into_iter_gives)
 
-pub returns-then-not-is_plain_at : goal.returns-then-not-is_plain_at
-returns-then-not-is_plain_at c =
-    equals_in (seen c.args.tree.now) c.loop-k.invariant (listed (goal.at.returns-then-not-is_plain_at c).In-loop-k) c.is_plain_at.ensures
-    c.if-not-is_plain_at.true
+pub returns-then-not-is_plain : goal.returns-then-not-is_plain
+returns-then-not-is_plain c =
+    equals_in (seen c.args.tree.now) c.loop-k.invariant (next_of c.loop-k.invariant.tree c.in-Some.ensures.steps) c.label.ensures.is
+    c.is_plain.ensures c.if-not-is_plain.true
 
-pub returns-then-not-is_unlike_later : goal.returns-then-not-is_unlike_later
-returns-then-not-is_unlike_later c =
-    repeated (seen c.args.tree.now) c.loop-k.invariant (listed (goal.at.returns-then-not-is_unlike_later c).In-loop-k) c.is_plain_at.ensures
-    c.if-not-is_plain_at.false
-    c.is_unlike_later.ensures
-    c.if-not-is_unlike_later.true
+pub differs_behind-requires : goal.differs_behind-requires
+differs_behind-requires c =
+    let next = next_of c.loop-k.invariant.tree c.in-Some.ensures.steps in
+    omega (arith, next.listed, property_count_lem c.args.tree.now, c.type_inv.tree 1)
 
-pub loop-k-smaller : goal.loop-k-smaller
-loop-k-smaller c = omega (arith, c.next-k-in-loop-k.ensures.behind)
+pub returns-then-not-differs_behind : goal.returns-then-not-differs_behind
+returns-then-not-differs_behind c =
+    repeated (seen c.args.tree.now) c.loop-k.invariant (next_of c.loop-k.invariant.tree c.in-Some.ensures.steps) c.label.ensures.is
+    c.is_plain.ensures c.if-not-is_plain.false c.differs_behind.ensures c.if-not-differs_behind.true
 
 pub loop-k-preserved : goal.loop-k-preserved
 loop-k-preserved c =
-    writing_on (seen c.args.tree.now) c.loop-k.invariant (listed (goal.at.loop-k-preserved c).In-loop-k) c.is_plain_at.ensures
-    c.if-not-is_plain_at.false
-    c.is_unlike_later.ensures
-    c.if-not-is_unlike_later.false
-    c.next-k-in-loop-k.ensures
+    writing_on (seen c.args.tree.now) c.loop-k.invariant (next_of c.loop-k.invariant.tree c.in-Some.ensures.steps) c.label.ensures.is
+    c.is_plain.ensures c.if-not-is_plain.false c.differs_behind.ensures c.if-not-differs_behind.false
 
 pub returns : goal.returns
-returns c =
-    writing_ends (seen c.args.tree.now) c.loop-k.invariant
-    (omega (arith, c.loop-k-test.false, c.property_count-count.ensures))
+returns c = writing_ends (seen c.args.tree.now) c.loop-k.invariant c.in-None.ensures.steps.first.0

@@ -1,10 +1,6 @@
-use Prim.Native.Nat.{◌-◌}
 use Rattle.tree.specs.Seen.{seen}
 use Rattle.sheet.proofs.LabelLaws.{Writing}
 use Rattle.sheet.proofs.label.are_writable.Given as goal
 
 abbrev pub invariant-loop-k : goal.invariant-loop-k
-invariant-loop-k l = Writing (seen l.tree) l.k
-
-abbrev pub decreases-loop-k : goal.decreases-loop-k
-decreases-loop-k l = l.count - l.k
+invariant-loop-k l = Writing (seen l.tree) l.k-iterator

@@ -1,79 +1,40 @@
 -- `sheet::read::read_line` meets its contract. Assumes nothing.
-use Prim.Native.Nat.{suc, ◌+◌, ◌-◌, ◌^◌, ◌<◌, ◌≤◌}
 use native.Mathlib.Omega.{arith}
-use mathlib.Core.Path.{◌≡◌, sym, ap, ◌∙◌}
-use lib.ListN.{length}
-use borrow.Author.Tests.{not-true, not-false}
+use mathlib.Core.Path.{refl, ◌∙◌}
 use Rattle.protocol.specs.Tree.{property_in}
 use Rattle.tree.specs.Seen.{seen}
-use Rattle.sheet.proofs.ReadLaws.{rest_lent, label_room, no_label, no_number, line-fits, line-found}
+use Rattle.tree.proofs.RangeLaws.{sign_same}
+use Rattle.sheet.proofs.ReadLaws.{no_label, no_equals, no_number, line-found, line-fits}
 use Rattle.sheet.proofs.read.read_line.Goals as goal
-use Rattle.sheet.proofs.read.read_line.Goals.{After-has_label, Else-not-has_label}
 
-length-of : (c : After-has_label) → suc (length (let args = c.args in property_in (seen args.tree.now) args.k).label) ≡ c.label-label.result.end - c.label-label.result.start + 1
-length-of c =
-    let found = c.label-label.ensures in omega (arith, found.starts, found.ends)
+pub returns-in_err-strip_prefix : goal.returns-in_err-strip_prefix
+returns-in_err-strip_prefix c =
+    rw c.from_residual.ensures
+    (no_label (property_in (seen c.args.tree.now) c.args.k) c.args.bs.now c.label.ensures.is c.in_err-strip_prefix.ensures.cases)
 
--- There is room behind the label and "=".
-room : (c : Else-not-has_label) → suc (length (let args = c.args in property_in (seen args.tree.now) args.k).label) ≤ length c.args.bs.now
-room c =
-    let args = c.args in
-    omega (
-      arith,
-      label_room _ args.bs.now (sym c.has_label.ensures ∙ c.if-not-has_label.false),
-      ap length c.label-label.ensures.is,
-    )
+pub returns-in_err-behind : goal.returns-in_err-behind
+returns-in_err-behind c =
+    rw c.from_residual-in_err-behind.ensures
+    (no_equals (property_in (seen c.args.tree.now) c.args.k) c.args.bs.now c.label.ensures.is c.in_ok-strip_prefix.ensures.cases.1
+    c.in_err-behind.ensures.cases)
 
-pub returns-then-not-has_label : goal.returns-then-not-has_label
-returns-then-not-has_label c =
-    no_label (let args = c.args in property_in (seen args.tree.now) args.k) c.args.bs.now c.label-label.ensures.is c.has_label.ensures
-    c.if-not-has_label.true
-    c.nothing.ensures
+pub returns-in_err-numeral : goal.returns-in_err-numeral
+returns-in_err-numeral c =
+    rw c.from_residual-in_err-numeral.ensures
+    (no_number (property_in (seen c.args.tree.now) c.args.k) c.args.bs.now c.label.ensures.is c.in_ok-strip_prefix.ensures.cases.1
+    c.in_ok-behind.ensures.cases.1 c.in_ok-strip_prefix.ensures.cases.0 c.in_ok-behind.ensures.cases.0
+    (c.takes_sign.ensures ∙ sign_same c.read_fields.ensures) c.in_err-numeral.ensures)
 
-pub slice_bounds-read_number-count : goal.slice_bounds-read_number-count
-slice_bounds-read_number-count c =
-    omega (arith, room (goal.at.slice_bounds-read_number-count c).Else-not-has_label, length-of (goal.at.slice_bounds-read_number-count c).After-has_label)
-
-pub slice_bounds-read_number-start : goal.slice_bounds-read_number-start
-slice_bounds-read_number-start c =
-    omega (arith, room (goal.at.slice_bounds-read_number-start c).Else-not-has_label, length-of (goal.at.slice_bounds-read_number-start c).After-has_label)
-
-pub returns-then-not-told : goal.returns-then-not-told
-returns-then-not-told c =
-    no_number (let args = c.args in property_in (seen args.tree.now) args.k) c.args.bs.now c.label-label.ensures.is c.has_label.ensures
-    c.if-not-has_label.false
-    c.read_fields-f.ensures
-    c.takes_sign.ensures
-    (rest_lent c.args.bs.now (length-of (goal.at.returns-then-not-told c).After-has_label))
-    c.read_number-told.ensures
-    (not-true c.read_number-told.result.is c.if-not-told.true)
-    c.nothing-then-not-told.ensures
-
-pub overflow_add-result : goal.overflow_add-result
-overflow_add-result c =
-    let short : length c.args.bs.now < 2 ^ 63 =
-    omega arith in
-    omega (
-      arith,
-      length-of (goal.at.overflow_add-result c).After-has_label,
-      short,
-      line-fits (let args = c.args in property_in (seen args.tree.now) args.k) c.args.bs.now c.label-label.ensures.is c.has_label.ensures
-          c.if-not-has_label.false
-          c.read_fields-f.ensures
-          c.takes_sign.ensures
-          (rest_lent c.args.bs.now (length-of (goal.at.overflow_add-result c).After-has_label))
-          c.read_number-told.ensures
-          (not-false c.read_number-told.result.is c.if-not-told.false)
-          (room (goal.at.overflow_add-result c).Else-not-has_label),
-    )
+pub overflow_add-result-2 : goal.overflow_add-result-2
+overflow_add-result-2 c =
+    let p = property_in (seen c.args.tree.now) c.args.k in
+    let line = line-found p c.args.bs.now c.label.ensures.is c.in_ok-strip_prefix.ensures.cases.1
+    c.in_ok-behind.ensures.cases.1 c.in_ok-strip_prefix.ensures.cases.0 c.in_ok-behind.ensures.cases.0
+    (c.takes_sign.ensures ∙ sign_same c.read_fields.ensures) c.in_ok-numeral.ensures refl in
+    omega (arith, line-fits line)
 
 pub returns : goal.returns
 returns c =
-    line-found (let args = c.args in property_in (seen args.tree.now) args.k) c.args.bs.now c.label-label.ensures.is c.has_label.ensures
-    c.if-not-has_label.false
-    c.read_fields-f.ensures
-    c.takes_sign.ensures
-    (rest_lent c.args.bs.now (length-of (goal.at.returns c).After-has_label))
-    c.read_number-told.ensures
-    (not-false c.read_number-told.result.is c.if-not-told.false)
-    (sym (length-of (goal.at.returns c).After-has_label))
+    line-found (property_in (seen c.args.tree.now) c.args.k) c.args.bs.now c.label.ensures.is c.in_ok-strip_prefix.ensures.cases.1
+    c.in_ok-behind.ensures.cases.1 c.in_ok-strip_prefix.ensures.cases.0 c.in_ok-behind.ensures.cases.0
+    (c.takes_sign.ensures ∙ sign_same c.read_fields.ensures) c.in_ok-numeral.ensures refl
