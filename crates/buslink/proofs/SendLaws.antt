@@ -1,28 +1,27 @@
 -- What is sent: the value of a word, the probes of a tree, and the bytes of a frame.
 -- Assumes nothing.
-use Prim.Native.Nat.{ℕ, zero, suc, ◌+◌, ◌-◌, ◌*◌, ◌%◌, ◌^◌, ◌<◌, ◌≤◌}
+use Prim.Native.Nat.{ℕ, zero, suc, ◌+◌, ◌-◌, ◌%◌, ◌^◌, ◌<◌, ◌≤◌}
 use native.Mathlib.Omega.{arith}
 use native.Mathlib.Numerals.{add-one}
 use native.Mathlib.Decide.{dec_lt}
 use mathlib.Core.Path.{◌≡◌, refl, sym, ap, ap₂, subst, ◌∙◌}
-use mathlib.Core.Bool.{Bool, true, false, cond, ◌&&◌}
+use mathlib.Core.Bool.{Bool, true, false, ◌&&◌}
 use mathlib.Core.List.{List, [], ◌∷◌, ◌++◌}
 use mathlib.Core.Option.{Option, none, some, some-injective, none-ne-some}
-use borrow.Author.Tests.{eq-eqb, ne_eqb, leb-true, leb-false, ltb-true, ltb-false, lt-ltb, le-ltb}
+use borrow.Author.Tests.{lt-ltb, le-ltb}
 use lib.Bits.{bit_and}
-use lib.Dec.{eqb, ltb, leb}
 use lib.ListN.{length, get_or, get_elem?, take, drop, get_or-eq_default}
 use lib.Seq.{drop-drop, drop-nil}
 use Rattle.std.proofs.Common.{Some, None}
 use Rattle.protocol.specs.declared.Refusal.{Refusal}
 use Rattle.protocol.specs.Refusal.{refusal_number, option_of}
-use Rattle.protocol.specs.Numbers.{word_end, done, no_room, bad_identifier}
+use Rattle.protocol.specs.Numbers.{done, no_room, bad_identifier}
 use Rattle.protocol.specs.Buffer.{over}
 use Rattle.protocol.specs.Tree.{Tree, Cell, is_live, live_of, numbered, places_from, property_in, cell_in, readable, reading}
 use Rattle.protocol.specs.Answer.{takes_sign}
 use Rattle.protocol.specs.Listed.{All}
-use Rattle.protocol.specs.Signed.{Number, number_of, word_for}
-use Rattle.protocol.proofs.TestLaws.{and_right, leb_same, if_both}
+use Rattle.protocol.specs.Signed.{Number, number_of}
+use Rattle.protocol.proofs.TestLaws.{if_both}
 use Rattle.protocol.proofs.BufferLaws.{over_nil}
 use Rattle.protocol.proofs.RefusalLaws.{refusal_some}
 use Rattle.protocol.proofs.LoadLaws.{places_all}
@@ -37,93 +36,10 @@ use Rattle.cells.proofs.CellLaws.{lent_refused, refused_unsound}
 use Rattle.tree.proofs.FoundLaws.{found_at, found_none}
 use Rattle.buslink.specs.declared.indicator.Indicator.{Indicator}
 use Rattle.buslink.specs.Identifier.{is_station, is_indicator_type, identifier}
-use Rattle.buslink.specs.Indicator.{indicators, available, error, raw, blank, bytes_of}
+use Rattle.buslink.specs.Indicator.{indicators, blank, bytes_of}
 use Rattle.buslink.specs.Send.{probes_of, decimals, scaled, fits, valued, shown, probe_indicator, or_blank, indicator_of, first_of, data_of, Sent, unsent, send_in, Sends}
-use Rattle.buslink.specs.Steps.{sized, times, ProbeAt}
+use Rattle.buslink.specs.Steps.{ProbeAt}
 use Rattle.protocol.proofs.PackLaws.{packing}
-
--- Tests of two kinds that hold together come out the same.
-leb_ltb : (a b c d : ℕ) → (a ≤ b → c < d) → (c < d → a ≤ b) → leb a b ≡ ltb c d
-leb_ltb a b c d f g = go (leb a b) refl (ltb c d) refl
-  where
-    go : (t : Bool) → leb a b ≡ t → (u : Bool) → ltb c d ≡ u → leb a b ≡ ltb c d
-    go true e true h = e ∙ sym h
-    go true e false h = absurd (omega (arith, f (leb-true a b e), ltb-false c d h))
-    go false e true h = absurd (omega (arith, g (ltb-true c d h), leb-false a b e))
-    go false e false h = e ∙ sym h
-
--- Whether a value fits 24 bits, by the size of its number.
-module _ (code : ℕ) (below : Bool) (size : ℕ) where
-  pub scaled_is : scaled code (sized below size) ≡ sized below (times code size)
-  unfolding scaled
-  scaled_is = go (eqb code raw)
-    where
-      go : (t : Bool) → cond t (sized below size) (sized below (size * 10)) ≡ sized below (cond t size (size * 10))
-      go true = refl
-      go false = refl
-
-  pub tenfold_fits : (code ≡ raw → ⊥) → leb size 838860 ≡ fits (scaled code (sized below size))
-  unfolding scaled fits
-  tenfold_fits h = rw (ne_eqb code raw h) (go below)
-    where
-      go : (t : Bool) → leb size 838860 ≡ cond t (leb (size * 10) (2 ^ 23)) (ltb (size * 10) (2 ^ 23))
-      go true = leb_same size 838860 (size * 10) (2 ^ 23) (λ l. omega (arith, l)) (λ l. omega (arith, l))
-      go false = leb_ltb size 838860 (size * 10) (2 ^ 23) (λ l. omega (arith, l)) (λ l. omega (arith, l))
-
-  pub raw-fits-below : code ≡ raw → below ≡ true → leb size 8388608 ≡ fits (scaled code (sized below size))
-  unfolding scaled fits
-  raw-fits-below h e = rw (eq-eqb code raw h, e)
-
-  pub raw-fits : code ≡ raw → below ≡ false → leb size 8388607 ≡ fits (scaled code (sized below size))
-  unfolding scaled fits
-  raw-fits h e = rw (eq-eqb code raw h, e) (leb_ltb size 8388607 size (2 ^ 23) (λ l. omega (arith, l)) (λ l. omega (arith, l)))
-
-  pub fits_small : fits (scaled code (sized below size)) ≡ true → times code size ≤ 2 ^ 23
-  unfolding fits
-  fits_small h = go below (ap fits (sym scaled_is) ∙ h)
-    where
-      go : (t : Bool) → fits (sized t (times code size)) ≡ true → times code size ≤ 2 ^ 23
-      go true e = leb-true (times code size) (2 ^ 23) e
-      go false e = omega (arith, ltb-true (times code size) (2 ^ 23) e)
-
-pub raw_size : (code size : ℕ) → code ≡ raw → size ≡ times code size
-raw_size code size h = rw (eq-eqb code raw h)
-
-pub tenfold_size : (code size : ℕ) → (code ≡ raw → ⊥) → size * 10 ≡ times code size
-tenfold_size code size h = rw (ne_eqb code raw h)
-
-some_times : (code size : ℕ) → 0 < size → 0 < times code size
-some_times code size h = go (eqb code raw)
-  where
-    go : (t : Bool) → 0 < cond t size (size * 10)
-    go true = h
-    go false = omega (arith, h)
-
--- The number of a word, and what is sent for it.
-module _ (code : ℕ) (signed : Bool) (w : ℕ) {below : Bool} {size : ℕ} (b : below ≡ (signed && leb (2 ^ 31) w)) (s : size ≡ cond below (word_end - w) w) where
-  pub number_is : number_of signed w ≡ sized below size
-  unfolding number_of
-  number_is = rw (s, b) (go (signed && leb (2 ^ 31) w))
-    where
-      go : (t : Bool) → cond t (sized true (word_end - w)) (sized false w) ≡ sized t (cond t (word_end - w) w)
-      go true = refl
-      go false = refl
-
-  pub word-sized : w < word_end → below ≡ true → 0 < times code size
-  word-sized h e = some_times code size (subst (λ n. 0 < n) (sym (s ∙ ap (λ t. cond t (word_end - w) w) e)) (omega (arith, h)))
-
-  pub sent_beyond : fits (scaled code (sized below size)) ≡ false
-      → record { value = 0; status = available + error; format = code } ≡ valued code (scaled code (number_of signed w))
-  unfolding valued
-  sent_beyond h = rw (number_is, h)
-
-  pub sent_value : {v n : ℕ} → fits (scaled code (sized below size)) ≡ true → n ≡ times code size → v ≡ cond below (word_end - n) n
-      → record { value = v; status = available; format = code } ≡ valued code (scaled code (number_of signed w))
-  unfolding valued word_for
-  sent_value h e f = rw (number_is, h, scaled_is code below size, f, e)
-
-pub below_some : (signed : Bool) (w : ℕ) {below : Bool} → below ≡ (signed && leb (2 ^ 31) w) → below ≡ true → 0 < w
-below_some signed w b e = omega (arith, leb-true (2 ^ 31) w (and_right signed _ (sym b ∙ e)))
 
 -- A probe, by its fields and its reading.
 module _ (t : Tree) (cs : List Cell) (k : ℕ) {f : Fields} (same : FieldsAre (property_in t k) f) where

@@ -1,25 +1,17 @@
 -- No public promise is stated by these definitions: they follow the code step by step.
-use Rattle.std.specs.Prelude.{ℕ, Result, Ok, Err, IfOk, take, ◌*◌, ◌<◌, ◌≡◌, Bool, true, false, cond, not, ◌&&◌, List, length, drop, eqb}
+use Rattle.std.specs.Prelude.{ℕ, Result, Ok, Err, IfOk, take, ◌<◌, ◌≡◌, Bool, true, false, cond, not, ◌&&◌, List, length, drop, eqb}
 use Rattle.protocol.specs.declared.Refusal.{Refusal}
 use Rattle.protocol.specs.declared.Refusal.TheVariants.{BadIdentifier}
 use Rattle.protocol.specs.Refusal.{number_told}
 use Rattle.protocol.specs.Bytes.{bit}
 use Rattle.protocol.specs.Tree.{Tree, is_live, live_of, property_in}
-use Rattle.protocol.specs.Signed.{Number}
 use Rattle.tree.specs.Lookup.{places_in}
 use Rattle.buslink.specs.declared.identifier.FrameType.{FrameType}
 use Rattle.buslink.specs.declared.identifier.Station.{Station}
 use Rattle.buslink.specs.declared.receive.Taken.{Taken}
 use Rattle.buslink.specs.Identifier.{is_station, is_indicator_type, is_for, type_in, last_type}
-use Rattle.buslink.specs.Indicator.{raw, indicator_size, bit_available, bit_error}
+use Rattle.buslink.specs.Indicator.{indicator_size, bit_available, bit_error}
 use Rattle.buslink.specs.Receive.{receipt_number}
-
-abbrev pub sized : Bool → ℕ → Number
-sized below size = record { below = below; size = size }
-
--- The size of a value.
-abbrev pub times : ℕ → ℕ → ℕ
-times code size = cond (eqb code raw) size (size * 10)
 
 -- The place of the live property with so many before it, or one behind the last property.
 pub record ProbeAt (t : Tree) (before r : ℕ) : Type 0 where

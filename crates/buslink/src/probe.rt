@@ -1,68 +1,44 @@
 // The probes of a tree, each as the indicator that is sent for it.
-ghost use Rattle.std.specs.Prelude.{◌≡◌, true, cond, ◌&&◌, ◌-◌, ◌^◌, ◌<◌, leb};
-ghost use Rattle.protocol.specs.Numbers.{word_end};
-ghost use Rattle.protocol.specs.Signed.{number_of};
+ghost use Rattle.std.specs.Prelude.{◌≡◌, ◌^◌, pos, neg_ℤ, ◌<ℤ◌, ◌≤ℤ◌};
+ghost use Rattle.protocol.specs.Signed.{number_of, integer_of};
 ghost use Rattle.tree.specs.Seen.{seen};
 ghost use Rattle.cells.specs.Cells.{cells_in};
-ghost use Rattle.buslink.specs.Send.{scaled, fits, valued, probe_indicator};
-ghost use Rattle.buslink.specs.Steps.{sized, times, ProbeAt};
+ghost use Rattle.buslink.specs.Send.{scaled, valued, probe_indicator};
+ghost use Rattle.buslink.specs.Steps.{ProbeAt};
 
 use super::indicator::{AVAILABLE, BLANK, ERROR, Indicator, RAW};
 use cells::cell;
 use tree::{live, range, record};
 
-// Whether a word is that of a number below zero.
-fn is_below(signed: bool, w: u32) -> bool
-    ensures { result ≡ (signed && leb (2 ^ 31) w) }
+// The number of a word, signed or not.
+fn number_in(signed: bool, w: u32) -> i64
+    ensures value { result ≡ integer_of (number_of signed w) }
+    ensures low { neg_ℤ (pos (2 ^ 31)) ≤ℤ result }
+    ensures high { result <ℤ pos (2 ^ 32) }
 {
-    if !signed {
-        return false;
+    if signed {
+        return i64::from(word::signed(w));
     }
-    2147483648 <= w
+    i64::from(w)
 }
 
-// The size of a word below zero, and the word of a size.
-fn turned(below: bool, n: u32) -> u32
-    requires { below ≡ true → 0 < n }
-    ensures { result ≡ cond below (word_end - n) n }
+// Its value: ten times the number, but for raw data.
+fn value_in(code: u8, signed: bool, w: u32) -> i64
+    ensures { result ≡ integer_of (scaled code (number_of signed w)) }
 {
-    if below {
-        return 4294967295 - n + 1;
-    }
-    n
-}
-
-// Whether the value of a number fits 24 bits. Ten times 838860 does, with either sign, and ten times more does not.
-fn value_fits(code: u8, below: bool, size: u32) -> bool
-    ensures { result ≡ fits (scaled code (sized below size)) }
-{
-    if code != RAW {
-        return size <= 838860;
-    }
-    if below {
-        return size <= 8388608;
-    }
-    size <= 8388607
-}
-
-// The size of a value: ten times that of the number, but for raw data.
-fn value_size(code: u8, size: u32) -> u32
-    requires { times code size < 2 ^ 32 }
-    ensures { result ≡ times code size }
-{
+    let number = number_in(signed, w);
     if code == RAW {
-        return size;
+        return number;
     }
-    size * 10
+    number * 10
 }
 
 // A word as it is sent. Beyond 24 bits it is 0, with AVAILABLE and ERROR.
 fn of_word(code: u8, signed: bool, w: u32) -> Indicator
     ensures { result ≡ valued code (scaled code (number_of signed w)) }
 {
-    let below = is_below(signed, w);
-    let size = turned(below, w);
-    if !value_fits(code, below, size) {
+    let value = value_in(code, signed, w);
+    if value < -0x80_0000 || 0x7F_FFFF < value {
         return Indicator {
             value: 0,
             status: AVAILABLE | ERROR,
@@ -70,7 +46,7 @@ fn of_word(code: u8, signed: bool, w: u32) -> Indicator
         };
     }
     Indicator {
-        value: turned(below, value_size(code, size)),
+        value: (value as i32).cast_unsigned(),
         status: AVAILABLE,
         format: code,
     }

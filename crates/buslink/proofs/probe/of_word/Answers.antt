@@ -1,36 +1,23 @@
 -- `buslink::probe::of_word` meets its contract. Assumes nothing.
-use Prim.Native.Nat.{◌<◌}
-use native.Mathlib.Omega.{arith}
-use mathlib.Core.Path.{◌≡◌, sym, subst, ◌∙◌}
-use mathlib.Core.Bool.{true}
-use Rattle.buslink.specs.Send.{scaled, fits}
-use Rattle.buslink.specs.Steps.{sized}
-use Rattle.buslink.proofs.SendLaws.{below_some, sent_beyond, sent_value, fits_small, word-sized}
+use mathlib.Core.Path.{◌∙◌}
+use Rattle.std.proofs.Common.{w64}
+use Rattle.std.proofs.lemmas.Int.{to_z-of_z}
+use Rattle.buslink.proofs.ValueLaws.{number_told, scaled_told, sent_below, sent_above, sent_value}
 use Rattle.buslink.proofs.probe.of_word.Goals as goal
-use Rattle.buslink.proofs.probe.of_word.Goals.{Else-not-value_fits}
+use Rattle.buslink.proofs.probe.of_word.Goals.{then-value-ltminus8388608-via-then-value-ltminus8388608, then-value-ltminus8388608-via-else-value-ltminus8388608+then-value-gt8388607}
 
-does-fit : (c : Else-not-value_fits) → fits (scaled c.args.code (sized c.is_below-below.result c.turned-size.result)) ≡ true
-does-fit c =
-    sym c.value_fits.ensures ∙ c.if-not-value_fits.false
-
-pub turned-size-requires : goal.turned-size-requires
-turned-size-requires c = below_some c.args.signed c.args.w c.is_below-below.ensures
-
-pub returns-then-not-value_fits : goal.returns-then-not-value_fits
-returns-then-not-value_fits c =
-    sent_beyond c.args.code c.args.signed c.args.w c.is_below-below.ensures c.turned-size.ensures
-    (sym c.value_fits.ensures ∙ c.if-not-value_fits.true)
-
-pub value_size-requires : goal.value_size-requires
-value_size-requires c = omega (arith, fits_small _ _ _ (does-fit (goal.at.value_size-requires c).Else-not-value_fits))
-
-pub turned-requires : goal.turned-requires
-turned-requires c =
-    λ e. subst (λ n. 0 < n) (sym c.value_size.ensures)
-    (word-sized c.args.code c.args.signed c.args.w c.is_below-below.ensures c.turned-size.ensures
-    c.ranges.w.fits e)
+pub returns-then-value-ltminus8388608 : goal.returns-then-value-ltminus8388608
+returns-then-value-ltminus8388608 c =
+    let args = c.args in
+    let told = scaled_told args.code _ (number_told args.signed args.w c.ranges.w.fits) in
+    let value = to_z-of_z w64 c.value_in-value.result (record { sfits = c.value_in-value.type_inv }) ∙ c.value_in-value.ensures in
+    elim c.then-value-ltminus8388608.branch [
+      | then-value-ltminus8388608-via-then-value-ltminus8388608 w ↦ sent_below args.code _ told value w.if-value-ltminus8388608.true
+      | then-value-ltminus8388608-via-else-value-ltminus8388608+then-value-gt8388607 w ↦ sent_above args.code _ told value w.if-value-gt8388607.true
+    ]
 
 pub returns : goal.returns
 returns c =
-    sent_value c.args.code c.args.signed c.args.w c.is_below-below.ensures c.turned-size.ensures
-    (does-fit (goal.at.returns c).Else-not-value_fits) c.value_size.ensures c.turned.ensures
+    let args = c.args in
+    let told = scaled_told args.code _ (number_told args.signed args.w c.ranges.w.fits) in
+    sent_value args.code _ told (to_z-of_z w64 c.value_in-value.result (record { sfits = c.value_in-value.type_inv }) ∙ c.value_in-value.ensures) c.if-value-ltminus8388608.false c.if-value-gt8388607.false c.cast_unsigned.ensures
