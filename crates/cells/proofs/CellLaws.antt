@@ -1,6 +1,6 @@
 -- Cells and their form: read back, checked, a word or a mark stored, and a posting.
 -- Assumes nothing.
-use Prim.Native.Nat.{ℕ, zero, suc, ◌+◌, ◌*◌, ◌/◌, ◌%◌, ◌^◌, ◌<◌, ◌≤◌}
+use Prim.Native.Nat.{ℕ, zero, suc, ◌+◌, ◌-◌, ◌*◌, ◌/◌, ◌%◌, ◌<◌, ◌≤◌}
 use native.Mathlib.Omega.{arith}
 use native.Mathlib.Nat.{not-suc-le-zero, zero-add, add-zero}
 use native.Mathlib.Decide.{dec_lt}
@@ -10,8 +10,8 @@ use mathlib.Core.List.{List, [], ◌∷◌, ◌++◌}
 use mathlib.Core.Option.{some, some-injective}
 use borrow.Author.Tests.{ltb-true, lt-ltb, le-ltb}
 use borrow.Author.Count.{below_more}
-use lib.ListN.{length, get_or, drop, set, length-drop, length-set, get_or-eq_default}
-use lib.Seq.{get_or-drop, get_or-append-add, set_out, set-set, get_or-set_same}
+use lib.ListN.{length, get_or, take, drop, set, length-drop, length-set, get_or-eq_default}
+use lib.Seq.{drop-drop, get_or-drop, get_or-append-add, set_out, set-set, get_or-set_same}
 use lib.Dec.{eqb, ltb}
 use Rattle.protocol.specs.Numbers.{word_end, done, unsound, not_live}
 use Rattle.protocol.specs.Bytes.{Bytes, every, word}
@@ -19,7 +19,9 @@ use Rattle.protocol.specs.Buffer.{put_at}
 use Rattle.protocol.specs.Tree.{Property, Tree, Cell, cell_in, cells_sound, is_live, property_in, posted, post}
 use Rattle.protocol.proofs.TestLaws.{and_left, and_right, and_both}
 use Rattle.protocol.proofs.ListLaws.{number_word, word_number, bytes_cons, bytes_drop, bytes_none, bytes_append}
-use Rattle.protocol.proofs.BufferLaws.{set_put, put_four, put_behind, length_put}
+use Rattle.protocol.proofs.BufferLaws.{set_put, put_behind, length_put}
+use borrow.Rule.Slice.PartMut.{put_mid}
+use mir.Val.{bool_byte}
 use Rattle.protocol.specs.declared.Refusal.{Refusal}
 use Rattle.protocol.specs.Refusal.{refusal_number}
 use Rattle.protocol.proofs.RefusalLaws.{refusal_some}
@@ -365,13 +367,19 @@ posted_size bs k w ready {mid} e f = ap length f ∙ mark_size mid k ready ∙ a
     go true = word_size bs k w
     go false = refl
 
-pub word_set : (bs : List ℕ) (k w : ℕ) → k < length bs / cell_size
-    → set (set (set (set bs (k * cell_size) (w / 2 ^ 24 % 2 ^ 8)) (k * cell_size + 1) (w / 2 ^ 16 % 2 ^ 8)) (k * cell_size + 2) (w / 2 ^ 8 % 2 ^ 8)) (k * cell_size + 3) (w % 2 ^ 8)
-    ≡ with_word k w bs
-unfolding with_word word
-word_set bs k w h =
+pub word_set : (bs : List ℕ) (k w : ℕ) {at : ℕ} {new : List ℕ} → k < length bs / cell_size → at ≡ k * cell_size → new ≡ word w
+    → put_mid at (at + 4 - at) bs new ≡ with_word k w bs
+unfolding with_word word put_at
+word_set bs k w h e f =
+    let four : k * cell_size + 4 - k * cell_size ≡ 4 = omega arith in
     rw (lt-ltb k (length bs / cell_size) h)
-    (put_four bs (k * cell_size) (w / 2 ^ 24 % 2 ^ 8) (w / 2 ^ 16 % 2 ^ 8) (w / 2 ^ 8 % 2 ^ 8) (w % 2 ^ 8) (omega (arith, h)))
+    (ap₂ (λ n l. put_mid n (n + 4 - n) bs l) e f
+    ∙ ap (λ m. put_mid (k * cell_size) m bs (word w)) four
+    ∙ ap (λ l. take (k * cell_size) bs ++ (word w ++ l)) (drop-drop 4 (k * cell_size) bs))
+
+pub mark_byte_is : (t : Bool) → bool_byte t ≡ mark_of t
+mark_byte_is true = refl
+mark_byte_is false = refl
 
 pub mark_set : (bs : List ℕ) (k : ℕ) (t : Bool) → k < length bs / cell_size → set bs (k * cell_size + 4) (mark_of t) ≡ with_mark k t bs
 unfolding with_mark

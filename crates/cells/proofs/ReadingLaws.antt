@@ -1,19 +1,13 @@
 -- A reading: the tests of row 12, and the word behind them.
 -- Assumes nothing.
 use Prim.Native.Nat.{ℕ}
-use mathlib.Core.Path.{◌≡◌, refl, sym, ap, ◌∙◌}
-use mathlib.Core.Bool.{Bool, true, false, cond, ◌&&◌}
-use mathlib.Core.Option.{Option, none, some}
-use Rattle.protocol.specs.Tree.{Property, Cell, can_read, is_live, readable, reading}
+use mathlib.Core.Path.{◌≡◌, sym, ap, ◌∙◌}
+use mathlib.Core.Bool.{Bool, true, false}
+use mathlib.Core.Option.{some}
+use Rattle.protocol.specs.Tree.{Property, Cell, readable, reading}
 use Rattle.protocol.proofs.RuleLaws.{reading-word, no_reading_lem}
 use Rattle.std.proofs.Common.{Some, None}
 use Rattle.protocol.specs.Refusal.{option_of}
-
--- Row 12, test by test.
-pub readable_by : (p : Property) (c : Cell) {reads live ready : Bool} → can_read p ≡ reads → is_live p ≡ live → c.ready ≡ ready
-    → (reads && cond live ready true) ≡ readable p c
-unfolding readable
-readable_by p c e f g = rw (e, f, g)
 
 -- What is handed back, by whether there is a number.
 module _ (p : Property) (c : Cell) {t : Bool} (told : t ≡ readable p c) where

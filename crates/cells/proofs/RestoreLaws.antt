@@ -8,7 +8,7 @@ use mathlib.Core.Bool.{true, false, cond}
 use mathlib.Core.List.{List, [], ◌∷◌}
 use lib.ListN.{length, take, set}
 use lib.Seq.{take_all}
-use Rattle.protocol.specs.Numbers.{done, unsound}
+use Rattle.protocol.specs.Numbers.{done}
 use Rattle.protocol.specs.Tree.{Property, Cell, is_live, property_in, cell_in, unready, restored_cell, restored}
 use Rattle.protocol.proofs.RuleLaws.{property_at, restored-length}
 use Rattle.protocol.specs.declared.Refusal.{Refusal}

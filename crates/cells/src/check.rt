@@ -15,13 +15,10 @@ pub fn has_cells(cells: &[u8]) -> bool
     if cells.len() % CELL_SIZE != 0 {
         return false;
     }
-    let count = cells.len() / CELL_SIZE;
-    let mut k = 0;
-    while k < count {
+    for k in 0..cells.len() / CELL_SIZE {
         if 1 < cells[k * CELL_SIZE + 4] {
             return false;
         }
-        k += 1;
     }
     true
 }

@@ -1,13 +1,14 @@
 -- `cells::cell::store_mark` meets its contract. Assumes nothing.
-use mathlib.Core.Bool.{true, false}
-use Rattle.cells.proofs.CellLaws.{mark_kept, mark_set}
+use mathlib.Core.Path.{ap₂, ◌∙◌}
+use Prim.Native.Nat.{◌+◌}
+use lib.ListN.{set}
+use Rattle.cells.proofs.CellLaws.{mark_kept, mark_set, mark_byte_is}
 use Rattle.cells.proofs.cell.store_mark.Goals as goal
 
-pub returns-then-cells-place : goal.returns-then-cells-place
-returns-then-cells-place c = mark_kept c.args.cells.now c.args.place c.args.mark c.if-cells-place.true
+pub returns-in_default : goal.returns-in_default
+returns-in_default c = mark_kept c.args.cells.now c.args.place c.args.mark c.in_default.ensures
 
-pub returns-then-mark : goal.returns-then-mark
-returns-then-mark c = rw c.if-mark.true (mark_set c.args.cells.now c.args.place true c.if-cells-place.false)
-
-pub returns-else-mark : goal.returns-else-mark
-returns-else-mark c = rw c.if-mark.false (mark_set c.args.cells.now c.args.place false c.if-cells-place.false)
+pub returns : goal.returns
+returns c =
+    ap₂ (λ n b. set c.args.cells.now (n + 4) b) c.in-Some.ensures.1 (c.from.ensures ∙ mark_byte_is c.args.mark)
+    ∙ mark_set c.args.cells.now c.args.place c.args.mark c.in-Some.ensures.0

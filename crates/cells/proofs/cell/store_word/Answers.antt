@@ -1,20 +1,12 @@
 -- `cells::cell::store_word` meets its contract. Assumes nothing.
-use native.Mathlib.Omega.{arith}
-use lib.ListN.{length-set}
+use mathlib.Core.Path.{◌∙◌}
 use Rattle.cells.proofs.CellLaws.{word_kept, word_set}
 use Rattle.cells.proofs.cell.store_word.Goals as goal
 
-pub returns-then-cells-place : goal.returns-then-cells-place
-returns-then-cells-place c = word_kept c.args.cells.now c.args.place c.args.n c.if-cells-place.true
-
-pub bounds-cells-at-2 : goal.bounds-cells-at-2
-bounds-cells-at-2 c = simp length-set (omega arith)
-
-pub bounds-cells-at-3 : goal.bounds-cells-at-3
-bounds-cells-at-3 c = simp length-set (omega arith)
-
-pub bounds-cells-at-4 : goal.bounds-cells-at-4
-bounds-cells-at-4 c = simp length-set (omega arith)
+pub returns-in_default : goal.returns-in_default
+returns-in_default c = word_kept c.args.cells.now c.args.place c.args.n c.in_default.ensures
 
 pub returns : goal.returns
-returns c = word_set c.args.cells.now c.args.place c.args.n c.if-cells-place.false
+returns c =
+    word_set c.args.cells.now c.args.place c.args.n c.in-Some.ensures.0 c.in-Some.ensures.1
+    (c.copy_from_slice.ensures.after ∙ c.bytes_of.ensures)
