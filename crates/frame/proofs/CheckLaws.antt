@@ -112,7 +112,7 @@ module _ (s : List ℕ) (from n : ℕ) (old : List ℕ) (room : n ≤ length old
         within = omega arith;
       }
 
-  pub copy_more : {out out' : List ℕ} {i k k' w : ℕ} → Copying s from n old out i k → k < n → i < length s
+  copy_more : {out out' : List ℕ} {i k k' w : ℕ} → Copying s from n old out i k → k < n → i < length s
       → Put k (get_or s i 0 ∷ []) out k' out' → w ≡ length (doubled (get_or s i 0)) → Copying s from n old out' (i + w) k'
   copy_more {i = i} {k = k} {k' = k'} {w = w} c h l p e =
       let b : ℕ = get_or s i 0 in
@@ -131,6 +131,19 @@ module _ (s : List ℕ) (from n : ℕ) (old : List ℕ) (room : n ≤ length old
         put = puts (omega arith) c.put p;
         within = omega (arith, p.next);
       }
+
+  -- A byte other than 10h; and a 10h, behind which a byte is passed over.
+  pub copy_lone : {out out' : List ℕ} {i k k' : ℕ} → Copying s from n old out i k → k < n → i < length s
+      → Put k (get_or s i 0 ∷ []) out k' out' → (get_or s i 0 ≡ DLE → ⊥) → Copying s from n old out' (i + 1) k'
+  copy_lone {i = i} c h l p u =
+      copy_more c h l p (sym (ap (λ t. length (cond t (DLE ∷ DLE ∷ []) (get_or s i 0 ∷ []))) (ne_eqb (get_or s i 0) DLE u)))
+
+  pub copy_doubled : {out out' : List ℕ} {i k k' : ℕ} → Copying s from n old out i k → k < n → i < length s
+      → Put k (get_or s i 0 ∷ []) out k' out' → get_or s i 0 ≡ DLE → Copying s from n old out' (i + 1 + 1) k'
+  copy_doubled {out' = out'} {i = i} {k' = k'} c h l p e =
+      let two : i + 2 ≡ i + 1 + 1 = omega arith in
+      subst (λ m. Copying s from n old out' m k') two
+      (copy_more c h l p (sym (ap (λ t. length (cond t (DLE ∷ DLE ∷ []) (get_or s i 0 ∷ []))) (eq-eqb (get_or s i 0) DLE e))))
 
   pub copy_same : {out : List ℕ} {i k : ℕ} → Copying s from n old out i k → length out ≡ length old
   copy_same {k = k} c =

@@ -144,8 +144,15 @@ fn copy_content(s: &[u8], from: usize, n: usize, out: &mut [u8]) -> usize
         if s.len() <= i {
             return k;
         }
-        out[k] = s[i];
-        i += width(s[i]);
+        let b = s[i];
+        out[k] = b;
+        i += 1;
+        if b == DLE {
+            if s.len() <= i {
+                return k + 1;
+            }
+            i += 1;
+        }
     }
     n
 }
