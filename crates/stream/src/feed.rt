@@ -77,8 +77,7 @@ fn move_on(place: Place, b: u8) -> Move
             phase: Phase::Inside,
             len: 0,
         }),
-        Phase::OutsideWaiting => outside(b),
-        Phase::Outside => outside(b),
+        Phase::OutsideWaiting | Phase::Outside => outside(b),
     }
 }
 
