@@ -2,31 +2,37 @@
 -- Assumes nothing.
 use Prim.Native.Nat.{ℕ, ◌-◌, ◌<◌, ◌≤◌}
 use native.Mathlib.Omega.{arith}
-use mathlib.Core.Path.{◌≡◌, refl, sym, ap, ◌∙◌}
+use mathlib.Core.Path.{◌≡◌, sym, ap, ◌∙◌}
 use mathlib.Core.Bool.{Bool, true, false, cond}
 use mathlib.Core.List.{List, []}
 use mathlib.Core.Option.{Option, none, some}
 use borrow.Author.Tests.{eq-eqb, ne_eqb, lt-ltb, le-ltb}
-use lib.ListN.{length, take, drop, length-drop}
-use lib.Seq.{take_all}
+use lib.ListN.{length, take, drop, replicate, length-append, length-drop, length-replicate}
+use lib.Seq.{take_all, length-take-le}
 use lib.Dec.{eqb}
 use lib.IntN.{ℤ}
-use Rattle.protocol.specs.Numbers.{done, unsound, no_such_property, no_reading}
+use Rattle.protocol.specs.Numbers.{done, unsound, max_depth}
 use Rattle.protocol.specs.Frame.{read_datagram}
+use Rattle.protocol.specs.Buffer.{over}
 use Rattle.protocol.specs.Request.{Asked}
 use Rattle.protocol.specs.Signed.{number_of, integer_of}
 use Rattle.protocol.specs.Tree.{property_in, cell_in, reading}
 use Rattle.protocol.proofs.FrameLaws.{read_datagram-refused}
 use Rattle.datagram.proofs.UdpLaws.{data-from-4}
-use Rattle.request.specs.declared.Asked as declared
-use Rattle.request.specs.Asked.{AskedIs}
-use Rattle.buslink.specs.declared.table.Told.{Told}
+use Rattle.std.specs.Prelude.{Result, Ok, Err, ok_or}
+use Rattle.protocol.specs.declared.Refusal.{Refusal}
+use Rattle.protocol.specs.declared.Refusal.TheVariants.{NoReading, NoSuchProperty}
+use Rattle.protocol.specs.Refusal.{refusal_number, number_told, option_of, op_number}
+use Rattle.protocol.proofs.RefusalLaws.{refusal_some}
+use Rattle.request.specs.declared.Request.{Request}
+use Rattle.request.specs.Asked.{padded, AskedIs}
+use Rattle.buslink.specs.Receive.{Told}
 use Rattle.tree.specs.Seen.{seen}
 use Rattle.soundness.specs.Sound.{is_tree}
 use Rattle.cells.specs.Cells.{cells_in}
-use Rattle.cells.specs.Lent.{is_lent, lent_number, read_of, read_in, Reads}
-use Rattle.cells.proofs.CellLaws.{lent_refused}
-use Rattle.pualirqiq.specs.Calls.{tree_number, Handed, handed, fields_of, HandsBack, Locates, Tells}
+use Rattle.cells.specs.Lent.{is_lent, lent_number, Read, read_in, or_else, Reads}
+use Rattle.cells.proofs.CellLaws.{lent_refused, refused_unsound}
+use Rattle.pualirqiq.specs.Calls.{tree_number, value_told, ReadIs, Handed, handed, fields_of, HandsBack, Locates, Tells}
 
 -- A tree alone.
 pub tree_number_lem : (tree : List ℕ) (t : Bool) → is_tree tree ≡ t → cond t done unsound ≡ tree_number tree
@@ -38,21 +44,32 @@ handed-same : {op op' len len' index index' value value' : ℕ} {path path' : Li
     → value ≡ value' → handed op path len index value ≡ handed op' path' len' index' value'
 handed-same a b c d e = cc
 
-module _ (a : Asked) (old : Handed) {x : declared.Asked} (is : AskedIs a x) where
-  pub hands_none : (x.number ≡ done → ⊥) → HandsBack a old x.number old
-  hands_none u =
+-- A path's array has 16 bytes.
+padded_room : (path : List ℕ) → max_depth ≤ length (padded path)
+unfolding padded over
+padded_room path =
+    omega (arith, length-append path (drop (length path) (replicate max_depth 0)), length-drop {A = ℕ} (length path) (replicate max_depth 0), length-replicate {A = ℕ} max_depth 0)
+
+module _ (a : Asked) (old : Handed) where
+  pub hands_none : (e : Refusal) → AskedIs a (Err e) → HandsBack a old (refusal_number e) old
+  hands_none e h =
+      let number : refusal_number e ≡ a.number = ap (λ x. x.number) h.is in
       record {
-        number = is.number;
-        fields = sym (ap (λ t. cond t (fields_of a.request) old) (ne_eqb a.number done (λ d. u (is.number ∙ d))));
+        number = number;
+        fields = sym (ap (λ t. cond t (fields_of a.request) old) (ne_eqb a.number done (λ d. refusal_some e (number ∙ d))));
       }
 
-  pub hands_all : x.number ≡ done → HandsBack a old done (handed x.op x.path x.len x.index.0 x.value)
-  hands_all d =
+  pub hands_all : (q : Request) → AskedIs a (Ok q)
+      → HandsBack a old done (handed (op_number q.op) q.path.numbers q.path.len q.index.0 q.value)
+  hands_all q h =
+      let fits : q.path.len ≤ length q.path.numbers = omega (arith, q.path.short, padded_room a.request.path, ap length h.path) in
+      let is = ap (λ x. x.request) h.is in
+      let len : q.path.len ≡ length a.request.path = sym (length-take-le q.path.len q.path.numbers fits) ∙ ap (λ r. length r.path) is in
       record {
-        number = sym d ∙ is.number;
+        number = ap (λ x. x.number) h.is;
         fields =
-            handed-same is.op is.path is.len is.index is.value
-            ∙ sym (ap (λ t. cond t (fields_of a.request) old) (eq-eqb a.number done (sym is.number ∙ d)));
+            handed-same (ap (λ r. r.op) is) h.path len (ap (λ r. r.index) is) (ap (λ r. r.value) is)
+            ∙ sym (ap (λ t. cond t (fields_of a.request) old) (eq-eqb a.number done (sym (ap (λ x. x.number) h.is))));
       }
 
 -- A datagram's data.
@@ -80,28 +97,27 @@ module _ (s : List ℕ) {n : ℕ} (told : n ≡ (read_datagram s).number) where
       }
 
 -- A reading.
-module _ (tree cells : List ℕ) (place old : ℕ) where
-  pub reads_unsound : {n : ℕ} → n ≡ lent_number tree cells → (n ≡ done → ⊥) → Reads (read_in tree cells place) old unsound old
+module _ (tree cells : List ℕ) (place : ℕ) where
+  pub reads_unsound : (e : Refusal) → refusal_number e ≡ lent_number tree cells → ReadIs (read_in tree cells place) (Err e)
   unfolding read_in
-  reads_unsound e u = rw (lent_refused tree cells e u) (record { number = refl; word_is = refl })
+  reads_unsound e h = rw (lent_refused tree cells h (refusal_some e), refused_unsound tree cells h (refusal_some e))
 
   module _ (lent : is_lent tree cells ≡ true) where
-    pub reads_missing : length (seen tree).properties ≤ place → Reads (read_in tree cells place) old no_such_property old
+    pub reads_missing : length (seen tree).properties ≤ place → ReadIs (read_in tree cells place) (Err NoSuchProperty)
     unfolding read_in
-    reads_missing h = rw (lent, le-ltb place (length (seen tree).properties) h) (record { number = refl; word_is = refl })
+    reads_missing h = rw (lent, le-ltb place (length (seen tree).properties) h)
 
     module _ (h : place < length (seen tree).properties) where
-      read_there : (o : Option ℕ) → reading (property_in (seen tree) place) (cell_in (cells_in cells) place) ≡ o → read_in tree cells place ≡ read_of o
+      pub read_there : (o : Option ℕ) → reading (property_in (seen tree) place) (cell_in (cells_in cells) place) ≡ o
+          → ReadIs (read_in tree cells place) (ok_or (option_of o) NoReading)
       unfolding read_in
-      read_there o e = rw (lent, lt-ltb place (length (seen tree).properties) h, e)
+      read_there none e = rw (lent, lt-ltb place (length (seen tree).properties) h, e)
+      read_there (some n) e = rw (lent, lt-ltb place (length (seen tree).properties) h, e)
 
-      pub reads_none : reading (property_in (seen tree) place) (cell_in (cells_in cells) place) ≡ none
-          → Reads (read_in tree cells place) old no_reading old
-      reads_none e = rw (read_there none e) (record { number = refl; word_is = refl })
-
-      pub reads_word : {w : ℕ} → reading (property_in (seen tree) place) (cell_in (cells_in cells) place) ≡ some w
-          → Reads (read_in tree cells place) old done w
-      reads_word {w} e = rw (read_there (some w) e) (record { number = refl; word_is = refl })
+-- What is handed back for it.
+pub reads_as : (what : Read) (old : ℕ) (r : Result ℕ Refusal) → ReadIs what r → Reads what old (number_told r) (value_told old r)
+reads_as what old (Ok n) h = record { number = ap (λ w. w.number) (sym h); word_is = ap (λ w. or_else old w.word) (sym h) }
+reads_as what old (Err e) h = record { number = ap (λ w. w.number) (sym h); word_is = ap (λ w. or_else old w.word) (sym h) }
 
 -- What a table tells of an indicator.
 module _ {what told : Told} (e : told ≡ what) {value : ℤ} {status format : ℕ} where

@@ -1,6 +1,10 @@
 -- The C interface: what it takes for host functions and marks, what begins in a lent buffer, and what is handed back beside a
 -- number.
-use Rattle.std.specs.Prelude.{ℕ, ◌*◌, ◌≡◌, Bool, true, cond, not, ◌&&◌, List, length, take, drop, replicate, eqb, ℤ}
+use Rattle.std.specs.Prelude.{ℕ, ◌*◌, ◌≡◌, Bool, true, cond, not, ◌&&◌, List, length, take, drop, replicate, eqb, ℤ, Result, Ok, Err}
+use Rattle.std.proofs.Math.Option.{none, some}
+use Rattle.protocol.specs.declared.Refusal.{Refusal}
+use Rattle.protocol.specs.Refusal.{refusal_number}
+use Rattle.cells.specs.Lent.{Read}
 use Rattle.protocol.specs.Numbers.{done, unsound}
 use Rattle.protocol.specs.Frame.{Received}
 use Rattle.protocol.specs.Request.{Request, Asked}
@@ -8,13 +12,24 @@ use Rattle.protocol.specs.Signed.{number_of, integer_of}
 use Rattle.stream.specs.State.{state_length}
 use Rattle.request.specs.Asked.{padded}
 use Rattle.cells.specs.Cells.{cell_size}
-use Rattle.buslink.specs.declared.table.Told.{Told}
+use Rattle.buslink.specs.Receive.{Told}
 use Rattle.tree.specs.Seen.{seen}
 use Rattle.soundness.specs.Sound.{is_tree}
 
 -- A number as a truth: 0 is no, any other yes.
 abbrev pub truth : ℕ → Bool
 truth n = not (eqb n 0)
+
+-- The value of what a call comes to; with a refusal, one that stands for none.
+module _ {A : Type 0} where
+  abbrev pub value_told : A → Result A Refusal → A
+  value_told nothing (Ok a) = a
+  value_told nothing (Err e) = nothing
+
+-- House: a reading asked for by place, as code has it: its number, or why there is none.
+abbrev pub ReadIs : Read → Result ℕ Refusal → Type 0
+ReadIs what (Ok n) = what ≡ record { number = done; word = some n }
+ReadIs what (Err e) = what ≡ record { number = refusal_number e; word = none }
 
 -- A buffer that is filled with zeros where it has the right length, and else refused with 1.
 pub record Zeroes (right : Bool) (size : ℕ) (old : List ℕ) (n : ℕ) (new : List ℕ) : Type 0 where

@@ -8,4 +8,4 @@ pub returns-then-is_tree : goal.returns-then-is_tree
 returns-then-is_tree c = tree_number_lem c.args.tree.now true (sym c.is_tree.ensures ∙ c.if-is_tree.true)
 
 pub returns : goal.returns
-returns c = tree_number_lem c.args.tree.now false (sym c.is_tree.ensures ∙ c.if-is_tree.false)
+returns c = c.into.ensures ∙ tree_number_lem c.args.tree.now false (sym c.is_tree.ensures ∙ c.if-is_tree.false)
