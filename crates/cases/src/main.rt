@@ -14,10 +14,10 @@
 mod record;
 mod show;
 
-ghost use Rattle.std.specs.Prelude.{◌≡◌, ◌≤◌, length};
+ghost use Rattle.std.specs.Prelude.{◌≡◌, ◌≤◌, IfSome, length};
 
-use calls::Numbers;
-use record::BROKEN;
+use calls::{Answer, Numbers};
+use record::Case;
 use std::io;
 
 // How many bytes the numbers of a case are.
@@ -33,8 +33,8 @@ const OUT_ROOM: usize = 2560;
 fn numbers_of(b: &[u8; NUMBERS]) -> Numbers {
     Numbers {
         kind: b[0],
-        room: word::half_of(b[1], b[2]) as isize,
-        lent: word::half_of(b[3], b[4]) as isize,
+        room: usize::from(word::half_of(b[1], b[2])),
+        lent: usize::from(word::half_of(b[3], b[4])),
         address: b[5],
         mark: b[6],
         index: b[7],
@@ -42,105 +42,53 @@ fn numbers_of(b: &[u8; NUMBERS]) -> Numbers {
     }
 }
 
-// Makes the call of a case, and shows its line. Returns false where the kind is not known.
-fn show_kind(
-    rt: &impl Print,
-    name: &[u8],
-    n: Numbers,
-    string: &[u8],
-    tree: &[u8],
-    lent: &mut [u8],
-    out: &mut [u8],
-) -> io::Result<bool> {
-    let called = calls::run(n, string, tree, lent, out);
-    let len = called.len;
-    if called.known {
-        show::line(rt, name, called.number, &out[..len])?;
-    }
-    Ok(called.known)
-}
-
-// How many bytes of a buffer a number stands for: none where it is below 0, and never more than there are.
-fn count(n: isize, buffer: &[u8]) -> usize
-    ensures { result ≤ length buffer.now }
+// Makes the call of a case; none where a field cannot be read or the kind is not known. Neither the output nor what is lent is larger
+// than the numbers say.
+fn call(case: Case, lent: &mut [u8], out: &mut [u8]) -> Option<Answer>
+    ensures { IfSome result (λ answer. answer.len ≤ length out.new) }
 {
-    if n < 0 {
-        return 0;
+    let mut b = [0u8; NUMBERS];
+    if record::put_bytes(case.numbers, &mut b)? != NUMBERS {
+        return None;
     }
-    (n as usize).min(buffer.len())
-}
-
-// The same with the room and the size that the numbers give.
-fn run_in_room(
-    rt: &impl Print,
-    name: &[u8],
-    n: Numbers,
-    string: &[u8],
-    tree: &[u8],
-    lent: &mut [u8],
-) -> io::Result<bool> {
-    let mut out = [0u8; OUT_ROOM];
-    let room = count(n.room, &out);
-    let size = count(n.lent, lent);
-    show_kind(
-        rt,
-        name,
+    let n = numbers_of(&b);
+    let mut string = [0u8; FIELD_ROOM];
+    let s = record::put_bytes(case.string, &mut string)?;
+    let mut tree = [0u8; FIELD_ROOM];
+    let t = record::put_bytes(case.tree, &mut tree)?;
+    record::put_bytes(case.lent, lent)?;
+    let size = n.lent.min(lent.len());
+    let room = n.room.min(out.len());
+    calls::run(
         n,
-        string,
-        tree,
+        &string[..s],
+        &tree[..t],
         &mut lent[..size],
         &mut out[..room],
     )
 }
 
-// Runs a case whose string starts at a place. Returns where the next case starts, 0 where this one is broken.
-fn run_fields(
-    rt: &impl Print,
-    name: &[u8],
-    n: Numbers,
-    text: &[u8],
-    from: usize,
-    lent: &mut [u8],
-) -> io::Result<usize> {
-    let mut string = [0u8; FIELD_ROOM];
-    let string_part = record::field(text, from, b'|', &mut string);
-    let s = string_part.len;
-    let mut tree = [0u8; FIELD_ROOM];
-    let tree_part = record::field(text, string_part.next, b'|', &mut tree);
-    let t = tree_part.len;
-    let lent_part = record::field(text, tree_part.next, b'\n', lent);
-    if lent_part.next == BROKEN {
-        return Ok(0);
-    }
-    if run_in_room(rt, name, n, &string[..s], &tree[..t], lent)? {
-        return Ok(lent_part.next);
-    }
-    Ok(0)
-}
-
-// The same for a case that starts at a place.
-fn run_case(rt: &impl Print, text: &[u8], from: usize, lent: &mut [u8]) -> io::Result<usize> {
-    let end = record::field_end(text, from, b'|');
-    if text.len() <= end {
-        return Ok(0);
-    }
-    let mut b = [0u8; NUMBERS];
-    let part = record::field(text, end + 1, b'|', &mut b);
-    if part.len != NUMBERS {
-        return Ok(0);
-    }
-    run_fields(rt, &text[from..end], numbers_of(&b), text, part.next, lent)
+// Runs a case and shows its line. Returns false where the case is broken.
+fn run_case(rt: &impl Print, case: Case, lent: &mut [u8]) -> io::Result<bool> {
+    let mut out = [0u8; OUT_ROOM];
+    let Some(answer) = call(case, lent, &mut out) else {
+        return Ok(false);
+    };
+    show::line(rt, case.name, answer.number, &out[..answer.len])?;
+    Ok(true)
 }
 
 // Runs all cases of a text.
 fn run_all(rt: &impl Print, text: &[u8], lent: &mut [u8]) -> io::Result<()> {
-    let mut at = 0;
-    while at < text.len() {
-        let next = run_case(rt, text, at, lent)?;
-        if next <= at {
+    let mut left = text;
+    while left.len() != 0 {
+        let Some(case) = record::first(left) else {
+            return show::broken(rt);
+        };
+        if !run_case(rt, case, lent)? {
             return show::broken(rt);
         }
-        at = next;
+        left = case.behind;
     }
     Ok(())
 }

@@ -1,92 +1,75 @@
 // The fields of a case, in the form that is described in main.rt.
-ghost use Rattle.std.specs.Prelude.{◌≡◌, ◌≤◌, length, take};
+ghost use Rattle.std.specs.Prelude.{◌<◌, ◌≤◌, IfSome, length};
 
-// Stands for a place or a count where a field cannot be read.
-pub(crate) const BROKEN: usize = usize::MAX;
-
-// How many bytes a field has, and where the next one starts: BROKEN where it cannot be read.
-#[derive(Drop)]
-pub(crate) struct Part {
-    pub len: usize,
-    pub next: usize,
+// The fields of a case as they stand in a text, and the text behind it.
+#[derive(Clone, Copy)]
+pub(crate) struct Case<'a> {
+    pub name: &'a [u8],
+    pub numbers: &'a [u8],
+    pub string: &'a [u8],
+    pub tree: &'a [u8],
+    pub lent: &'a [u8],
+    pub behind: &'a [u8],
 }
 
-// Where the field that starts at a place ends: at the character given, or else at the end of the text.
-pub(crate) fn field_end(text: &[u8], from: usize, ending: u8) -> usize
-    ensures { from ≤ result }
+// The field at the front of a text, which ends at a character, and what stands behind that.
+fn split(text: &[u8], ending: u8) -> Option<(&[u8], &[u8])>
+    ensures { IfSome result (λ parts. length parts.1.now < length text.now) }
 {
-    let mut at = from;
-    while at < text.len() {
-        if text[at] == ending {
-            return at;
-        }
-        at += 1;
-    }
-    at
+    let end = text.iter().position(|c| *c == ending)?;
+    Some((&text[..end], &text[end + 1..]))
 }
 
-// The number of a hex digit, 16 for any other character.
-fn hex_number(c: u8) -> usize {
+// The case at the front of a text.
+pub(crate) fn first(text: &[u8]) -> Option<Case>
+    ensures { IfSome result (λ case. length case.behind.now < length text.now) }
+{
+    let (name, text) = split(text, b'|')?;
+    let (numbers, text) = split(text, b'|')?;
+    let (string, text) = split(text, b'|')?;
+    let (tree, text) = split(text, b'|')?;
+    let (lent, behind) = split(text, b'\n')?;
+    Some(Case {
+        name,
+        numbers,
+        string,
+        tree,
+        lent,
+        behind,
+    })
+}
+
+// The number of a hex digit.
+fn hex_number(c: u8) -> Option<u8>
+    ensures { IfSome result (λ n. n < 16) }
+{
     match c {
-        b'0'..=b'9' => (c - 48) as usize,
-        b'A'..=b'F' => (c - 55) as usize,
-        _ => 16,
+        b'0'..=b'9' => Some(c - b'0'),
+        b'A'..=b'F' => Some(c - b'A' + 10),
+        _ => None,
     }
 }
 
-// The byte of two hex digits, BROKEN for other characters.
-fn hex_byte(high: u8, low: u8) -> usize {
-    let h = hex_number(high);
-    if 15 < h {
-        return BROKEN;
-    }
-    let l = hex_number(low);
-    if 15 < l {
-        return BROKEN;
-    }
-    h * 16 + l
+// The byte of two hex digits.
+fn hex_byte(high: u8, low: u8) -> Option<u8> {
+    let h = hex_number(high)?;
+    let l = hex_number(low)?;
+    Some(h * 16 + l)
 }
 
-// The bytes that a text has in hex, put into a buffer. Returns how many there are, BROKEN where the text is not hex or the
-// buffer is too small.
-fn put_bytes(text: &[u8], out: &mut [u8]) -> usize {
+// The bytes that a text has in hex, put into a buffer: how many there are. None where the text is not hex or the buffer is too small.
+pub(crate) fn put_bytes(text: &[u8], out: &mut [u8]) -> Option<usize>
+    ensures { IfSome result (λ n. n ≤ length out.new) }
+{
     let n = text.len() / 2;
     if text.len() % 2 == 1 {
-        return BROKEN;
+        return None;
     }
     if out.len() < n {
-        return BROKEN;
+        return None;
     }
-    let mut i = 0;
-    while i < n {
-        let b = hex_byte(text[2 * i], text[2 * i + 1]);
-        if 255 < b {
-            return BROKEN;
-        }
-        out[i] = b as u8;
-        i += 1;
+    for i in 0..n {
+        out[i] = hex_byte(text[2 * i], text[2 * i + 1])?;
     }
-    n
-}
-
-// The bytes of the field that starts at a place.
-pub(crate) fn field(text: &[u8], from: usize, ending: u8, out: &mut [u8]) -> Part
-    ensures fits { result.len ≤ length out.new }
-    ensures front { result.len ≡ length (take result.len out.new) }
-{
-    let end = field_end(text, from, ending);
-    if text.len() <= end {
-        return Part {
-            len: 0,
-            next: BROKEN,
-        };
-    }
-    let len = put_bytes(&text[from..end], out);
-    if out.len() < len {
-        return Part {
-            len: 0,
-            next: BROKEN,
-        };
-    }
-    Part { len, next: end + 1 }
+    Some(n)
 }
