@@ -5,6 +5,7 @@
 pub mod bench;
 pub mod cell;
 pub mod check;
+pub mod lent;
 pub mod update;
 
 // The size of a cell in the lent form (docs/FORMATS.md).

@@ -3,6 +3,7 @@
 #![tactic(auto)]
 
 mod parents;
+pub mod sound;
 mod texts;
 
 ghost use Rattle.std.specs.Prelude.{◌≡◌, ◌+◌, ◌*◌, ◌<◌, drop};
