@@ -15,7 +15,7 @@ pub(crate) fn parents_sound(tree: &[u8]) -> bool
     if MAX_NODES < nodes || nodes == 0 || bytes::byte_at(tree, 2) != 0 {
         return false;
     }
-    let mut depths = [0u8; 64];
+    let mut depths = [0u8; MAX_NODES];
     depths[0] = 1;
     for k in 1..nodes {
         let parent = usize::from(bytes::byte_at(tree, 2 + k * NODE_SIZE));

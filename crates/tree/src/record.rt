@@ -109,7 +109,7 @@ pub fn option_count(kind: u8, max: u32) -> usize
 
 // The numbers in a property's record, which begins some bytes.
 fn fields_of(bs: &[u8]) -> Fields
-    requires { 16 ≤ length bs.now }
+    requires { property_size ≤ length bs.now }
     ensures { FieldsAre (property_seen [] bs.now) result }
 {
     Fields {
@@ -123,11 +123,11 @@ fn fields_of(bs: &[u8]) -> Fields
 }
 
 // The record at a place of a tree whose bytes end in it or before it: behind them stand zeros.
-fn cut_record(tree: &[u8], at: usize) -> [u8; 16]
-    requires { (at < 2 ^ 32) × (length tree.now < at + 16) }
-    ensures { result ≡ entries at 16 tree.now }
+fn cut_record(tree: &[u8], at: usize) -> [u8; PROPERTY_SIZE]
+    requires { (at < 2 ^ 32) × (length tree.now < at + property_size) }
+    ensures { result ≡ entries at property_size tree.now }
 {
-    let mut cut = [0u8; 16];
+    let mut cut = [0u8; PROPERTY_SIZE];
     if let Some(rest) = tree.get(at..) {
         cut[..rest.len()].copy_from_slice(rest);
     }
