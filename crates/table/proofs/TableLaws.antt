@@ -2,13 +2,13 @@
 -- Assumes nothing.
 use Prim.Native.Nat.{ℕ, suc, ◌<◌, ◌≤◌}
 use native.Mathlib.Omega.{arith}
-use mathlib.Core.Path.{◌≡◌, refl, sym, ap, ap₂, ◌∙◌}
-use mathlib.Core.Bool.{Bool, true, false, true≢false, not, ◌&&◌, ◌||◌, cond}
+use mathlib.Core.Path.{◌≡◌, refl, sym, ap₂, ◌∙◌}
+use mathlib.Core.Bool.{Bool, true, false, true≢false, not, ◌&&◌, cond}
 use mathlib.Core.List.{List, [], ◌∷◌}
 use borrow.Author.Tests.{eqb-true, eqb-false, ltb-true, ltb-false, lt-ltb, le-leb, lt-leb}
 use lib.ListN.{length}
 use lib.Dec.{eqb, ltb, leb}
-use Rattle.std.specs.List.{list_any}
+use Rattle.std.specs.List.{list_all}
 use Rattle.std.proofs.Common.{Less, Equal, Greater, nat_cmp, is_le}
 use Rattle.protocol.specs.declared.Op.{Op}
 use Rattle.protocol.specs.declared.Op.TheVariants.{Detect, Node, Record, Read, Write, WriteExtended}
@@ -26,7 +26,7 @@ known_op Read = omega arith
 known_op Write = omega arith
 known_op WriteExtended = omega arith
 
--- Bytes are nonzero, all of them, where none of them is 0.
+-- Bytes are nonzero, all of them.
 nonzero_by : (b : ℕ) → b < byte_end → nonzero b ≡ not (eqb b 0)
 nonzero_by b h = rw (lt-ltb b byte_end h) (go (ltb 0 b) refl (eqb b 0) refl)
   where
@@ -36,16 +36,10 @@ nonzero_by b h = rw (lt-ltb b byte_end h) (go (ltb 0 b) refl (eqb b 0) refl)
     go false e true f = refl
     go false e false f = absurd (eqb-false b 0 f (omega (arith, ltb-false 0 b e)))
 
-neither : (t u : Bool) → not (t || u) ≡ (not t && not u)
-neither true u = refl
-neither false u = refl
-
-pub nonzeros : (bs : List ℕ) → Bytes bs → not (list_any (λ b. eqb b 0) bs) ≡ every nonzero bs
+pub nonzeros : (bs : List ℕ) → Bytes bs → list_all (λ b. not (eqb b 0)) bs ≡ every nonzero bs
 unfolding every
 nonzeros [] all = refl
-nonzeros (b ∷ bs) all =
-    neither (eqb b 0) (list_any (λ b. eqb b 0) bs)
-    ∙ ap₂ (λ t u. t && u) (sym (nonzero_by b (all 0))) (nonzeros bs (λ i. all (suc i)))
+nonzeros (b ∷ bs) all = ap₂ (λ t u. t && u) (sym (nonzero_by b (all 0))) (nonzeros bs (λ i. all (suc i)))
 
 -- What a range's test of a number comes to.
 order_test : (x y : ℕ) → is_le (nat_cmp x y) ≡ leb x y
@@ -59,11 +53,11 @@ order_test x y = go (ltb x y) refl (eqb x y) refl
 
 -- A path, by the test of its length and that of its bytes.
 module _ (bs : List ℕ) where
-  pub path_sized : {t : Bool} → t ≡ list_any (λ b. eqb b 0) bs → is_le (nat_cmp 1 (length bs)) ≡ true → is_le (nat_cmp (length bs) max_depth) ≡ true → Bytes bs
-      → not t ≡ is_path bs
+  pub path_sized : {t : Bool} → t ≡ list_all (λ b. not (eqb b 0)) bs → is_le (nat_cmp 1 (length bs)) ≡ true → is_le (nat_cmp (length bs) max_depth) ≡ true → Bytes bs
+      → t ≡ is_path bs
   unfolding is_path
   path_sized e h k all =
-      ap not e ∙ nonzeros bs all ∙ sym (rw (sym (order_test 1 (length bs)) ∙ h, sym (order_test (length bs) max_depth) ∙ k))
+      e ∙ nonzeros bs all ∙ sym (rw (sym (order_test 1 (length bs)) ∙ h, sym (order_test (length bs) max_depth) ∙ k))
 
   pub path_other : (is_le (nat_cmp 1 (length bs)) && is_le (nat_cmp (length bs) max_depth)) ≡ false → false ≡ is_path bs
   unfolding is_path

@@ -1,17 +1,25 @@
 // What the table of requests allows. Reading and writing both go by it.
 #![tactic(auto)]
 
-ghost use Rattle.std.specs.Prelude.{◌≡◌};
+ghost use Rattle.std.specs.Prelude.{◌≡◌, ◌==◌, not};
+ghost use Rattle.std.specs.List.{list_all};
 ghost use Rattle.protocol.specs.Refusal.{op_number};
 ghost use Rattle.protocol.specs.Request.{request_of, is_path, path_fits, index_fits, value_fits, fits};
 
 use protocol::{MAX_DEPTH, Op, PropertyIndex};
 
+// Whether bytes are nonzero, all of them.
+fn all_nonzero(bs: &[u8]) -> bool
+    ensures { result ≡ list_all (λ b. not (b == 0)) bs.now }
+{
+    bs.iter().all(|b| *b != 0)
+}
+
 // Whether bytes are a path: 1 to 16 of them, none of them 0.
 fn is_path(path: &[u8]) -> bool
     ensures { result ≡ is_path path.now }
 {
-    (1..=MAX_DEPTH).contains(&path.len()) && !path.contains(&0)
+    (1..=MAX_DEPTH).contains(&path.len()) && all_nonzero(path)
 }
 
 // Each part of a request: by its rule where the op asks for it, and else empty or 0.

@@ -8,7 +8,7 @@ pub returns-then-contains : goal.returns-then-contains
 returns-then-contains c =
     let ends = c.new.ensures in
     let within = c.if-contains.ensures.cases in
-    path_sized c.args.path.now c.contains-then-contains.ensures.value
+    path_sized c.args.path.now c.all_nonzero.ensures
     (rw ends.start at within.0) (rw ends.end at within.1)
     (λ i. omega (arith, c.type_inv.path i))
 
