@@ -14,11 +14,14 @@
 mod record;
 mod show;
 
-ghost use Rattle.std.specs.Prelude.{◌≡◌, ◌≤◌, IfSome, length};
+ghost use Rattle.std.specs.Prelude.{◌≤◌, IfSome, length};
 
 use calls::{Answer, Numbers};
 use record::Case;
 use std::io;
+
+// Room for the text of all cases.
+const TEXT_ROOM: usize = 131072;
 
 // How many bytes the numbers of a case are.
 const NUMBERS: usize = 12;
@@ -93,16 +96,9 @@ fn run_all(rt: &impl Print, text: &[u8], lent: &mut [u8]) -> io::Result<()> {
     Ok(())
 }
 
-// Room for the text of all cases.
-fn text_buffer() -> [u8; 131072]
-    ensures { 131072 ≡ length result }
-{
-    [0; 131072]
-}
-
 // A text that fills the buffer may be longer than it.
 fn main(rt: HostRuntime) -> io::Result<()> {
-    let mut text = text_buffer();
+    let mut text = [0u8; TEXT_ROOM];
     let n = input::read_full(&mut rt.reader(), &mut text)?;
     if n == text.len() {
         return show::broken(&rt);
