@@ -1,9 +1,9 @@
 -- A content that lies in one piece: tallied, judged, and its data put out.
 -- Assumes nothing.
-use Rattle.std.proofs.Common.{Ok, Err, ◌≡◌, ℕ, ◌+◌, ◌-◌, ◌<◌, ◌≤◌, List, length, get_or, take, drop, sym, refl, ap, ◌∙◌, subst, add-one, arith, take_all, take-suc}
+use Rattle.std.proofs.Common.{[], Ok, Err, ◌≡◌, ℕ, ◌+◌, ◌-◌, ◌<◌, ◌≤◌, List, length, get_or, take, drop, sym, ap, ◌∙◌, subst, add-one, arith, take_all, take-suc}
 use mathlib.Core.Option.{some}
 use Rattle.protocol.specs.Numbers.{done, max_content}
-use Rattle.protocol.specs.Bytes.{Bytes, sum}
+use Rattle.protocol.specs.Bytes.{Bytes}
 use Rattle.protocol.specs.Frame.{judge_whole, data_in, received}
 use Rattle.protocol.specs.Buffer.{Put, Emits}
 use Rattle.protocol.proofs.BufferLaws.{put_emits, emits_refused}
@@ -19,9 +19,8 @@ pub record Tallying (c : List ℕ) (t : Tally) (i : ℕ) : Type 0 where
   pub within : i ≤ length c
   pub tally : Tallies (take i c) t
 
-pub tally_begins : (c : List ℕ) → Tallying c (record { count = 0; sum = 0; first = 0 }) 0
-unfolding sum
-tally_begins c = record { within = omega arith; tally = record { count = refl; total = refl; first = refl } }
+pub tally_begins : (c : List ℕ) {t : Tally} → Tallies [] t → Tallying c t 0
+tally_begins c w = record { within = omega arith; tally = w }
 
 pub tally_more : (c : List ℕ) {t r : Tally} {i : ℕ} → Tallying c t i → i < length c → OneMore t (get_or c i 0) r → Tallying c r (i + 1)
 tally_more c {r = r} {i = i} w h m =

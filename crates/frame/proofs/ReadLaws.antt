@@ -114,7 +114,11 @@ says (b ∷ p ∷ bs) = go (eqb b DLE) refl
     go true e = pair_says b p bs e
     go false e = lone_stands b (p ∷ bs) e
 
--- One byte more in a tally.
+-- A tally of no bytes, and one byte more.
+pub tallies_none : (t : Tally) → (t.count ≡ 0) × ((t.sum ≡ 0) × (t.first ≡ 0)) → Tallies [] t
+unfolding sum
+tallies_none t e = record { count = e.0; total = e.1.0; first = e.1.1 }
+
 pub tallies_more : (c : List ℕ) (b : ℕ) {t r : Tally} → Tallies c t → OneMore t b r → Tallies (c ++ b ∷ []) r
 tallies_more c b {t} {r} w m =
     record {
@@ -135,16 +139,9 @@ pub record Scanning (s : List ℕ) (t : Tally) (i : ℕ) : Type 0 where
   pub within : i ≤ length s
   pub short : length content + 2 ≤ i
 
-pub begins : (s : List ℕ) → 2 ≤ length s → Scanning s (record { count = 0; sum = 0; first = 0 }) 2
-unfolding sum double
-begins s h =
-    record {
-      content = [];
-      passed = refl;
-      tally = record { count = refl; total = refl; first = refl };
-      within = h;
-      short = omega arith;
-    }
+pub begins : (s : List ℕ) {t : Tally} → 2 ≤ length s → Tallies [] t → Scanning s t 2
+unfolding double
+begins s h w = record { content = []; passed = refl; tally = w; within = h; short = omega arith }
 
 module _ (s : List ℕ) (i : ℕ) {t : Tally} (w : Scanning s t i) where
   says_at : {p : Piece} → p ≡ piece_of (drop i s) → Says (drop i s) p

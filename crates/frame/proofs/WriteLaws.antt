@@ -11,7 +11,7 @@ abbrev pub front : ℕ → List ℕ → List ℕ
 front a d = (DLE ∷ STX ∷ doubled a) ++ double d
 
 abbrev pub pieces : ℕ → List ℕ → ℕ → List ℕ
-pieces a d k = ((front a d ++ doubled k) ++ DLE ∷ []) ++ ETX ∷ []
+pieces a d k = (front a d ++ doubled k) ++ DLE ∷ ETX ∷ []
 
 pub front_short : (a : ℕ) (d : List ℕ) → length (front a d) ≤ 4 + 2 * length d
 front_short a d = omega (arith, length-doubled a, length-double d, length-append (DLE ∷ STX ∷ doubled a) (double d))
@@ -19,9 +19,6 @@ front_short a d = omega (arith, length-doubled a, length-double d, length-append
 pub pieces_frame : (a : ℕ) (d : List ℕ) (k : ℕ) → k ≡ 255 - byte_sum (a ∷ d) → pieces a d k ≡ frame a d
 unfolding frame wrap content_of checksum double
 pieces_frame a d k h =
-    let body : List ℕ = (doubled a ++ double d) ++ doubled k in
-    ap (λ l. DLE ∷ STX ∷ l)
-    (append_assoc body (DLE ∷ []) (ETX ∷ [])
-    ∙ ap (λ l. l ++ DLE ∷ ETX ∷ [])
+    ap (λ l. DLE ∷ STX ∷ (l ++ DLE ∷ ETX ∷ []))
     (append_assoc (doubled a) (double d) (doubled k)
-    ∙ ap (λ l. doubled a ++ l) (sym (double_snoc d k) ∙ ap (λ x. double (d ++ x ∷ [])) h)))
+    ∙ ap (λ l. doubled a ++ l) (sym (double_snoc d k) ∙ ap (λ x. double (d ++ x ∷ [])) h))

@@ -42,7 +42,7 @@ fn piece_at(s: &[u8], i: usize) -> Piece
 }
 
 // What a content is judged by: how many bytes it has, their sum mod 256, and the first of them.
-#[derive(Drop)]
+#[derive(Default, Drop)]
 pub(crate) struct Tally {
     pub count: usize,
     pub sum: u8,
@@ -67,11 +67,7 @@ fn scan_string(s: &[u8]) -> Option<Tally>
     requires { 2 ≤ length s.now }
     ensures { ScanOf (undouble false (drop 2 s.now)) result }
 {
-    let mut t = Tally {
-        count: 0,
-        sum: 0,
-        first: 0,
-    };
+    let mut t = Tally::default();
     let mut i = 2;
     while i < s.len() {
         match piece_at(s, i) {
@@ -187,11 +183,7 @@ pub fn read_frame(address: u8, s: &[u8], out: &mut [u8]) -> Result<usize, Refusa
 fn tally_of(content: &[u8]) -> Tally
     ensures { Tallies content.now result }
 {
-    let mut t = Tally {
-        count: 0,
-        sum: 0,
-        first: 0,
-    };
+    let mut t = Tally::default();
     for b in content {
         t = add_byte(t, *b);
     }

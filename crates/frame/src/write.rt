@@ -35,13 +35,11 @@ fn put_frame(address: u8, payload: &[u8], out: &mut [u8]) -> usize
     requires { (length payload.now ≤ 256) × (520 ≤ length out.old) }
     ensures { Put 0 (frame address payload.now) out.old result out.new }
 {
-    let opened = buffer::put(out, 0, DLE);
-    let started = buffer::put(out, opened, STX);
+    let started = buffer::put_all(&[DLE, STX], out, 0);
     let addressed = buffer::put_doubled(out, started, address);
     let body = put_body(payload, out, addressed, address);
     let summed = buffer::put_doubled(out, body.at, 255 - body.sum);
-    let closing = buffer::put(out, summed, DLE);
-    buffer::put(out, closing, ETX)
+    buffer::put_all(&[DLE, ETX], out, summed)
 }
 
 // Data framed for an address: 8, 4, 5 or the length of the frame.

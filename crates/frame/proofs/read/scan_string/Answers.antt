@@ -1,6 +1,6 @@
 -- `frame::read::scan_string` meets its contract. Assumes nothing.
 use Rattle.std.proofs.Common.{◌+◌, ◌^◌, ◌<◌, sym, ◌∙◌, arith}
-use Rattle.frame.proofs.ReadLaws.{Scanning, begins, lone_on, doubled-on, whole, broken, unended}
+use Rattle.frame.proofs.ReadLaws.{Scanning, tallies_none, begins, lone_on, doubled-on, whole, broken, unended}
 use Rattle.frame.proofs.read.scan_string.Goals as goal
 use Rattle.frame.proofs.read.scan_string.Goals.{After-add_byte-t-in-Doubled, In-loop-i}
 
@@ -17,7 +17,7 @@ doubled c =
     (sym c.in-Doubled.is ∙ c.piece_at.ensures) c.add_byte-t-in-Doubled.ensures
 
 pub loop-i-init : goal.loop-i-init
-loop-i-init c = begins c.args.s.now c.requires
+loop-i-init c = begins c.args.s.now c.requires (tallies_none c.default-t.result c.default-t.ensures)
 
 pub add_byte-t-requires : goal.add_byte-t-requires
 add_byte-t-requires c = few (goal.at.add_byte-t-requires c).In-loop-i

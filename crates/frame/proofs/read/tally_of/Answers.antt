@@ -1,10 +1,11 @@
 -- `frame::read::tally_of` meets its contract. Assumes nothing.
 use Rattle.std.proofs.Common.{arith, length-take}
+use Rattle.frame.proofs.ReadLaws.{tallies_none}
 use Rattle.frame.proofs.ContentLaws.{tally_begins, tally_more, tally_ends}
 use Rattle.frame.proofs.read.tally_of.Goals as goal
 
 pub loop-b-init : goal.loop-b-init
-loop-b-init c = tally_begins c.args.content.now
+loop-b-init c = tally_begins c.args.content.now (tallies_none c.default-t.result c.default-t.ensures)
 
 pub add_byte-t-requires : goal.add_byte-t-requires
 add_byte-t-requires c =
