@@ -477,11 +477,8 @@ pub fn pq_buslink_send(
 ) -> u8
     ensures { Sends (send_in tree.now cells.now base sub kind (length out.old)) out.old result identifier.new out.new }
 {
-    tell(
-        buslink::send::send(tree, cells, base, sub, kind, out),
-        0,
-        identifier,
-    )
+    let sent = buslink::send::send(tree, cells, base, sub, kind, out);
+    tell(sent, 0, identifier)
 }
 
 // A table of a Buslink receiver's records that begins: 1 or 0.
