@@ -30,11 +30,12 @@ pub(crate) fn put_doubled(out: &mut [u8], at: usize, b: u8) -> usize
 pub fn put_all(bs: &[u8], out: &mut [u8], at: usize) -> usize
     ensures { Put at (fitting at bs.now out.old) out.old result out.new }
 {
-    if out.len() <= at {
-        return at;
+    let mut next = at;
+    for b in bs {
+        if out.len() <= next {
+            return next;
+        }
+        next = put(out, next, *b);
     }
-    let n = bs.len().min(out.len() - at);
-    let next = at + n;
-    out[at..next].copy_from_slice(&bs[..n]);
     next
 }
