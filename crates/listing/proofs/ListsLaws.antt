@@ -2,11 +2,11 @@
 -- Assumes nothing.
 use Prim.Native.Nat.{ℕ, ◌≤◌}
 use native.Mathlib.Omega.{arith}
-use mathlib.Core.Path.{◌≡◌, sym}
-use mathlib.Core.Bool.{true, false}
+use mathlib.Core.Path.{◌≡◌, refl, ap, subst, ◌∙◌}
+use mathlib.Core.Bool.{Bool, true, false, cond}
 use mathlib.Core.List.{List}
 use lib.ListN.{length}
-use Rattle.protocol.specs.Numbers.{unsound}
+use Rattle.protocol.specs.Numbers.{done, unsound}
 use Rattle.protocol.specs.Buffer.{Fills}
 use Rattle.protocol.specs.Listing.{listing}
 use Rattle.protocol.proofs.FillLaws.{fills_refused}
@@ -23,14 +23,25 @@ unfolding listed
 text_is bs h = rw h
 
 module _ (bs old : List ℕ) where
-  pub lists_unsound : is_tree bs ≡ false → Lists bs old unsound 0 old
+  pub lists_refused : {n : ℕ} → n ≡ cond (is_tree bs) done unsound → (n ≡ done → ⊥) → Lists bs old n 0 old
   unfolding listed
-  lists_unsound h = fills_refused (listed bs) old (sym (rw h)) (λ e. omega (arith, e)) (rw h)
+  lists_refused {n} e f = go (is_tree bs) refl
+    where
+      go : (b : Bool) → is_tree bs ≡ b → Lists bs old n 0 old
+      go true h = absurd (f (e ∙ rw h))
+      go false h = fills_refused (listed bs) old (e ∙ rw h) f (rw h)
 
-  -- A sound tree's listing is filled in, where there is room.
-  pub lists_text : {n size : ℕ} {new : List ℕ} → is_tree bs ≡ true → Fills (whole (listing (seen bs))) old n size new → Lists bs old n size new
+  -- What is not refused is a sound tree, whose listing is filled in, where there is room.
+  pub lists_sound : done ≡ cond (is_tree bs) done unsound → is_tree bs ≡ true
+  lists_sound e = go (is_tree bs) refl
+    where
+      go : (b : Bool) → is_tree bs ≡ b → is_tree bs ≡ true
+      go true h = h
+      go false h = absurd (omega (arith, e, ap (λ b. cond b done unsound) h))
+
+  pub lists_text : {n size : ℕ} {new cs : List ℕ} → is_tree bs ≡ true → cs ≡ bs → Fills (whole (listing (seen cs))) old n size new → Lists bs old n size new
   unfolding listed
-  lists_text h f = rw h f
+  lists_text {n} {size} {new} h e f = rw h (subst (λ l. Fills (whole (listing (seen l))) old n size new) e f)
 
 -- Room for every listing.
 pub longest : (bs : List ℕ) → is_tree bs ≡ true → length (listing (seen bs)) ≤ listing_room

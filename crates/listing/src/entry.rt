@@ -5,7 +5,7 @@ ghost use Rattle.tree.specs.Seen.{seen};
 ghost use Rattle.text.specs.Lays.{Lays};
 ghost use Rattle.listing.specs.Steps.{item_text, properties_text, own_text};
 
-use super::sound::SoundTree;
+use soundness::sound::SoundTree;
 use text::line::Dotted;
 use text::output::Output;
 use tree::{PROPERTY_SIZE, part, record};

@@ -3,14 +3,12 @@
 
 mod entry;
 pub mod print;
-mod sound;
 mod walk;
 
 ghost use Rattle.text.specs.Unwritten.{number_written, length_written};
 ghost use Rattle.listing.specs.Lists.{Lists};
 
-use protocol::Refusal;
-use sound::SoundTree;
+use soundness::sound;
 use text::fill;
 use text::unwritten::Unwritten;
 use walk::Listing;
@@ -23,11 +21,6 @@ pub const LISTING_ROOM: usize = 17664;
 pub fn list(tree: &[u8], out: &mut [u8]) -> Result<usize, Unwritten>
     ensures { Lists tree.now out.old (number_written result) (length_written result) out.new }
 {
-    if !soundness::is_tree(tree) {
-        return Err(Unwritten::Refused(Refusal::Unsound));
-    }
-    let listing = Listing {
-        tree: SoundTree { bytes: tree },
-    };
-    fill::fill(listing, LISTING_ROOM, out)
+    let tree = sound::check(tree)?;
+    fill::fill(Listing { tree }, LISTING_ROOM, out)
 }

@@ -7,8 +7,8 @@ ghost use Rattle.text.specs.Lays.{Lays};
 ghost use Rattle.listing.specs.Steps.{walk_text, Stands};
 
 use super::entry;
-use super::sound::SoundTree;
 use protocol::path::Path;
+use soundness::sound::SoundTree;
 use text::line::Value;
 use text::output::Output;
 use tree::{NODE_SIZE, record};

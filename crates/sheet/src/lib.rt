@@ -3,7 +3,6 @@
 #![tactic(auto)]
 
 mod label;
-mod lent;
 mod read;
 mod setting;
 mod write;
@@ -16,8 +15,7 @@ ghost use Rattle.text.specs.Unwritten.{number_written, length_written};
 ghost use Rattle.sheet.specs.Sheets.{write_number, written, load_in};
 ghost use Rattle.sheet.specs.Steps.{Stands};
 
-use cells::check;
-use lent::Lent;
+use cells::{check, lent};
 use protocol::Refusal;
 use text::fill;
 use text::unwritten::Unwritten;
@@ -31,11 +29,10 @@ fn sheet_of<'a>(tree: &'a [u8], cells: &'a [u8]) -> Result<Sheet<'a>, Refusal>
     ensures number { number_told result ≡ write_number tree.now cells.now }
     ensures sheet { IfOk result (Stands tree.now cells.now) }
 {
-    check::check(tree, cells)?;
+    let lent = lent::lend(tree, cells)?;
     if !label::are_writable(tree) {
         return Err(Refusal::BadSheet);
     }
-    let lent = Lent { tree, cells };
     if !write::are_in_range(lent) {
         return Err(Refusal::NotInRange);
     }

@@ -6,10 +6,10 @@ ghost use Rattle.tree.specs.Seen.{seen};
 ghost use Rattle.cells.specs.Cells.{cells_in};
 ghost use Rattle.text.specs.Lays.{Lays};
 
-use super::lent::Lent;
 use super::setting;
 use super::setting::Settings;
 use cells::cell;
+use cells::lent::Lent;
 use text::line::{Value, Word};
 use text::output::Output;
 use tree::{part, range, record};
