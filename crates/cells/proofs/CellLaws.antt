@@ -5,7 +5,7 @@ use native.Mathlib.Omega.{arith}
 use native.Mathlib.Nat.{not-suc-le-zero, zero-add, add-zero}
 use native.Mathlib.Decide.{dec_lt}
 use mathlib.Core.Path.{◌≡◌, refl, sym, ap, ap₂, subst, ◌∙◌}
-use mathlib.Core.Bool.{Bool, true, false, cond, ◌&&◌, false≢true, and-false}
+use mathlib.Core.Bool.{Bool, true, false, cond, false≢true, and-false}
 use mathlib.Core.List.{List, [], ◌∷◌, ◌++◌}
 use mathlib.Core.Option.{some, some-injective}
 use borrow.Author.Tests.{ltb-true, lt-ltb, le-ltb}
@@ -19,11 +19,12 @@ use Rattle.protocol.specs.Buffer.{put_at}
 use Rattle.protocol.specs.Tree.{Property, Tree, Cell, cell_in, cells_sound, is_live, property_in, posted, post}
 use Rattle.protocol.proofs.TestLaws.{and_left, and_right, and_both}
 use Rattle.protocol.proofs.ListLaws.{number_word, word_number, bytes_cons, bytes_drop, bytes_none, bytes_append}
-use Rattle.protocol.proofs.BufferLaws.{set_put, put_behind, length_put}
+use Rattle.protocol.proofs.BufferLaws.{set_put, put_behind}
 use borrow.Rule.Slice.PartMut.{put_mid}
 use mir.Val.{bool_byte}
 use Rattle.protocol.specs.declared.Refusal.{Refusal}
-use Rattle.protocol.specs.Refusal.{refusal_number}
+use Rattle.std.proofs.Common.{Result, Ok}
+use Rattle.protocol.specs.Refusal.{refusal_number, number_told}
 use Rattle.protocol.proofs.RefusalLaws.{refusal_some}
 use Rattle.tree.specs.Seen.{word_at, records_from, same, seen}
 use Rattle.soundness.specs.Sound.{is_tree}
@@ -339,34 +340,6 @@ pub mark_kept : (bs : List ℕ) (k : ℕ) (t : Bool) → length bs / cell_size �
 unfolding with_mark
 mark_kept bs k t h = rw (le-ltb k (length bs / cell_size) h)
 
--- Neither changes how many bytes there are.
-size_kept : (bs ys : List ℕ) (k offset : ℕ) → offset + length ys ≤ cell_size
-    → length (cond (ltb k (length bs / cell_size)) (put_at (k * cell_size + offset) ys bs) bs) ≡ length bs
-size_kept bs ys k offset fits = go (ltb k (length bs / cell_size)) refl
-  where
-    go : (t : Bool) → ltb k (length bs / cell_size) ≡ t → length (cond t (put_at (k * cell_size + offset) ys bs) bs) ≡ length bs
-    go true e = length_put bs (k * cell_size + offset) ys (omega (arith, fits, ltb-true k (length bs / cell_size) e))
-    go false e = refl
-
-word_size : (bs : List ℕ) (k w : ℕ) → length (with_word k w bs) ≡ length bs
-unfolding with_word word
-word_size bs k w =
-    ap (λ n. length (cond (ltb k (length bs / cell_size)) (put_at n (word w) bs) bs)) (sym (add-zero (k * cell_size)))
-    ∙ size_kept bs (word w) k 0 (omega arith)
-
-mark_size : (bs : List ℕ) (k : ℕ) (t : Bool) → length (with_mark k t bs) ≡ length bs
-unfolding with_mark
-mark_size bs k t = size_kept bs (mark_of t ∷ []) k 4 (omega arith)
-
-pub posted_size : (bs : List ℕ) (k w : ℕ) (ready : Bool) {mid new : List ℕ} → mid ≡ worded bs k w ready → new ≡ with_mark k ready mid
-    → length new ≡ length bs
-unfolding worded
-posted_size bs k w ready {mid} e f = ap length f ∙ mark_size mid k ready ∙ ap length e ∙ go ready
-  where
-    go : (t : Bool) → length (cond t (with_word k w bs) bs) ≡ length bs
-    go true = word_size bs k w
-    go false = refl
-
 pub word_set : (bs : List ℕ) (k w : ℕ) {at : ℕ} {new : List ℕ} → k < length bs / cell_size → at ≡ k * cell_size → new ≡ word w
     → put_mid at (at + 4 - at) bs new ≡ with_word k w bs
 unfolding with_word word put_at
@@ -410,6 +383,9 @@ module _ (tree cells : List ℕ) where
       go : (t : Bool) → is_lent tree cells ≡ t → is_lent tree cells ≡ true
       go true q = q
       go false q = absurd (omega (arith, sym h ∙ e, ap (λ t. cond t done unsound) q))
+
+  pub lent_passed : {r : Result (Unit {0}) Refusal} → number_told r ≡ lent_number tree cells → r ≡ Ok tt → is_lent tree cells ≡ true
+  lent_passed e h = lent_done (sym (ap number_told h) ∙ e) refl
 
   pub lent_refused : {n : ℕ} → n ≡ lent_number tree cells → (n ≡ done → ⊥) → is_lent tree cells ≡ false
   unfolding lent_number
@@ -455,9 +431,3 @@ module _ (tree cells : List ℕ) (k w : ℕ) (ready : Bool) where
             ∙ stored (cells_in cells) k w ready
             ∙ ap (λ p. cells_form p.cells) (sym is);
       })
-
--- The number of tree and cells, by the three tests.
-pub lent_by : (tree cells : List ℕ) {t u v : Bool} → is_tree tree ≡ t → has_cells cells ≡ u
-    → eqb (length (cells_in cells)) (length (seen tree).properties) ≡ v → cond (t && (u && v)) done unsound ≡ lent_number tree cells
-unfolding lent_number is_lent
-lent_by tree cells e f g = rw (e, f, g)

@@ -1,6 +1,6 @@
 -- Saved cells lent again, property by property.
 -- Assumes nothing.
-use Prim.Native.Nat.{ℕ, zero, suc, ◌+◌, ◌*◌, ◌<◌, ◌≤◌}
+use Prim.Native.Nat.{ℕ, zero, suc, ◌+◌, ◌<◌, ◌≤◌}
 use native.Mathlib.Omega.{arith}
 use native.Mathlib.Nat.{not-suc-le-zero}
 use mathlib.Core.Path.{◌≡◌, refl, sym, ap, ◌∙◌}
@@ -10,14 +10,14 @@ use lib.ListN.{length, take, set}
 use lib.Seq.{take_all}
 use Rattle.protocol.specs.Numbers.{done}
 use Rattle.protocol.specs.Tree.{Property, Cell, is_live, property_in, cell_in, unready, restored_cell, restored}
-use Rattle.protocol.proofs.RuleLaws.{property_at, restored-length}
+use Rattle.protocol.proofs.RuleLaws.{property_at}
 use Rattle.protocol.specs.declared.Refusal.{Refusal}
 use Rattle.protocol.specs.Refusal.{refusal_number}
 use Rattle.protocol.proofs.RefusalLaws.{refusal_some}
 use Rattle.tree.specs.Seen.{seen}
 use Rattle.cells.specs.Cells.{cells_form, cells_in, with_mark}
 use Rattle.cells.specs.Lent.{is_lent, lent_number, restore_in, Updates}
-use Rattle.cells.proofs.CellLaws.{cells_size_lem, lent_form, lent_refused, refused_unsound, mark-stored}
+use Rattle.cells.proofs.CellLaws.{lent_form, lent_refused, refused_unsound, mark-stored}
 
 -- One property more.
 step_live : (ps : List Property) (cs : List Cell) (k : ℕ) → k < length ps → is_live (property_at ps k) ≡ true
@@ -79,15 +79,6 @@ module _ (tree old : List ℕ) where
               ∙ ap cells_form (sym (step_other (seen tree).properties (cells_in old) k h dead))
               ∙ counted k;
         }
-
-  -- As many bytes as before.
-  pub restore_size : {cells : List ℕ} {k : ℕ} → is_lent tree old ≡ true → Restoring tree old cells k → length cells ≡ length old
-  restore_size {k = k} lent r =
-      ap length r.bytes
-      ∙ cells_size_lem (restored (take k (seen tree).properties) (cells_in old))
-      ∙ ap (λ n. n * 5) (restored-length (take k (seen tree).properties) (cells_in old))
-      ∙ sym (cells_size_lem (cells_in old))
-      ∙ ap length (sym (lent_form tree old lent))
 
   pub restore_ends : {cells : List ℕ} {k : ℕ} → is_lent tree old ≡ true → Restoring tree old cells k → length (seen tree).properties ≤ k
       → Updates (restore_in tree old) done cells

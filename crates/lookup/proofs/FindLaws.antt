@@ -90,9 +90,6 @@ module _ (bs : List ℕ) (table : Table) (node n : ℕ) where
     abbrev hit : ℕ
     hit = bool_byte (names bs table node k)
 
-    pub seek_fits : hit ≤ left
-    seek_fits = omega (arith, hit_small (names bs table node k), s.some_left)
-
     pub seek_found : k < table.end → left - hit ≡ 0 → numbered (belonging bs table node) n ≡ some k
     seek_found h q =
         s.unchanged
@@ -125,9 +122,6 @@ module _ (bs : List ℕ) (table : Table) (node : ℕ) where
   pub count_begins : Counting bs table node 0 table.first
   unfolding belonging
   count_begins = record { all = omega arith; within = omega arith }
-
-  pub count_fits : {n k : ℕ} → Counting bs table node n k → k < table.end → table.end < 256 → n + bool_byte (names bs table node k) < 256
-  count_fits {n} {k} s h small = omega (arith, hit_small (names bs table node k), s.within)
 
   pub count_more : {n k : ℕ} → Counting bs table node n k → k < table.end
       → Counting bs table node (n + bool_byte (names bs table node k)) (k + 1)

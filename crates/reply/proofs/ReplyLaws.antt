@@ -10,7 +10,7 @@ use Rattle.protocol.specs.contracts.Op.{the_type}
 use Rattle.protocol.specs.declared.Op.{Op}
 use Rattle.protocol.specs.declared.Op.TheVariants.{Detect, Node, Record, Read, Write, WriteExtended}
 use Rattle.protocol.specs.Refusal.{op_number}
-use borrow.Author.Tests.{eq-eqb, ne_eqb}
+use borrow.Author.Tests.{ne_eqb}
 use lib.ListN.{length}
 use Rattle.protocol.specs.Numbers.{op_write}
 use Rattle.protocol.specs.Bytes.{half, word, text}
@@ -42,10 +42,6 @@ module _ {at n n' : ℕ} {old mid new : List ℕ} where
       → Put at (fitting at (write_body o op) old) old n' new
   put_reasoned_body o {op} {save} h e p q =
       fit_as (simp (e, ne_eqb op op_write h)) (fits_join (save ∷ []) (text (reason o)) p q)
-
-pub put_write_body : (o : Outcome) {op save at n : ℕ} {old new : List ℕ} → op ≡ op_write → save ≡ save_byte o
-    → Put at (fitting at (save ∷ []) old) old n new → Put at (fitting at (write_body o op) old) old n new
-put_write_body o {op} h e p = fit_as (simp (e, eq-eqb op op_write h)) p
 
 -- An operation that is not 4 has another number.
 pub other_op : (op : Op) → sameb the_type op Write ≡ false → op_number op ≡ op_write → ⊥

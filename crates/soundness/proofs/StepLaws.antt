@@ -5,16 +5,15 @@ use native.Mathlib.Omega.{arith}
 use native.Mathlib.Nat.{zero-mul, suc-mul, sub-zero, add-zero, add_assoc}
 use native.Mathlib.Numerals.{add-one}
 use mathlib.Core.Path.{◌≡◌, refl, sym, ap, ap₂, subst, ◌∙◌}
-use mathlib.Core.Bool.{Bool, true, false, cond, not, ◌&&◌, and-true, and-false}
+use mathlib.Core.Bool.{Bool, true, false, cond, ◌&&◌, and-false}
 use mathlib.Core.List.{List}
 use mathlib.Core.Option.{Option, none, some}
-use borrow.Author.Tests.{leb-true, le-leb, lt-leb, eq-eqb, ne_eqb}
+use borrow.Author.Tests.{leb-true, le-leb, eq-eqb, ne_eqb}
 use lib.ListN.{length, get_or, drop}
 use lib.Seq.{drop-drop}
 use lib.Dec.{eqb, leb}
-use Rattle.protocol.specs.Numbers.{standard, enumeration, last_step_code, max_nodes, max_properties, max_option, max_texts, name_room}
-use Rattle.protocol.specs.Bytes.{at_most}
-use Rattle.protocol.specs.Tree.{Property, is_signed, can_read, can_write, is_live, step_code, standard_fits, live_sound, property_in}
+use Rattle.protocol.specs.Numbers.{max_nodes, max_properties, max_texts, name_room}
+use Rattle.protocol.specs.Tree.{Property, live_sound, property_in}
 use Rattle.protocol.proofs.TestLaws.{and_left, and_right}
 use Rattle.std.proofs.Common.{Some, None}
 use Rattle.std.specs.Option.{option_eq}
@@ -104,28 +103,7 @@ module _ (size : ℕ) (f : List ℕ → ℕ → Option ℕ) (bs : List ℕ) (fro
                 (found_at (f (drop (from + k * size) bs) at) e);
           }
 
--- The rules of a property's numbers.
-pub live_by : (p : Property) {live reads writes : Bool} → is_live p ≡ live → can_read p ≡ reads → can_write p ≡ writes
-    → cond live (reads && not writes) true ≡ live_sound p
-unfolding live_sound
-live_by p {live} {reads} e f g =
-    sym (ap₂ (λ l r. cond l (r && not (can_write p)) true) e f ∙ ap (λ w. cond live (reads && not w) true) g)
-
--- Type 1: its step code means none, or its range decides.
-module _ (p : Property) {code : ℕ} (is : code ≡ step_code p) where
-  pub stepless : last_step_code < code → false ≡ standard_fits p
-  stepless h = let no_code : leb (step_code p) last_step_code ≡ false = lt-leb (step_code p) last_step_code (omega (arith, is, h)) in
-      sym (rw no_code (and-false (at_most (is_signed p) p.min p.max)))
-
-  pub stepped : {signed ranged : Bool} → code ≤ last_step_code → signed ≡ is_signed p → ranged ≡ at_most signed p.min p.max → ranged ≡ standard_fits p
-  stepped h s r = let coded : leb (step_code p) last_step_code ≡ true = le-leb (step_code p) last_step_code (omega (arith, is, h)) in
-      r ∙ ap (λ b. at_most b p.min p.max) s ∙ sym (rw coded (and-true (at_most (is_signed p) p.min p.max)))
-
-pub kind_by : (p : Property) {one two low : Bool} → eqb p.kind standard ≡ one → eqb p.kind enumeration ≡ two → eqb p.min 0 ≡ low
-    → cond one (standard_fits p) (two && (low && leb p.max max_option)) ≡ kind_fits p
-unfolding kind_fits
-kind_by p e f g = rw (e, f, g)
-
+-- The rules of a property's numbers are rules of the numbers alone.
 pub fields_same : (nodes : ℕ) {p : Property} {f : Fields} → FieldsAre p f → fields_fit nodes (numbers_of f) ≡ fields_fit nodes p
 unfolding fields_fit live_sound kind_fits
 fields_same nodes w = simp (w.node, w.kind, w.min, w.max, w.attribute, w.format)

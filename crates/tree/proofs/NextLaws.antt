@@ -2,14 +2,14 @@
 -- Assumes nothing.
 use Prim.Native.Nat.{ℕ, ◌+◌, ◌<◌, ◌≤◌}
 use native.Mathlib.Omega.{arith}
-use mathlib.Core.Path.{◌≡◌, refl, ◌∙◌}
+use mathlib.Core.Path.{◌≡◌, ◌∙◌}
 use mathlib.Core.Bool.{Bool, true, false}
 use mathlib.Core.List.{[], ◌∷◌}
 use lib.ListN.{length}
 use Rattle.protocol.specs.Tree.{Property, Tree, is_live, property_in}
 use Rattle.protocol.proofs.PlaceLaws.{places_here, places_past, places_end}
 use Rattle.tree.specs.declared.record.Fields.{Fields}
-use Rattle.tree.specs.Lookup.{FieldsAre, numbers_of, places_in, NextIs}
+use Rattle.tree.specs.Lookup.{FieldsAre, numbers_of, places_in}
 
 module _ (test : Property → Bool) (t : Tree) where
   pub places_none : {k : ℕ} → length t.properties ≤ k → places_in test t k ≡ []
@@ -29,17 +29,8 @@ module _ (test : Property → Bool) (t : Tree) where
     pub behind : from ≤ k
     pub same : places_in test t from ≡ places_in test t k
 
-  pub pass_begins : (from : ℕ) → Passing from from
-  pass_begins from = record { behind = omega arith; same = refl }
-
-  pub next_none : {from k : ℕ} → Passing from k → length t.properties ≤ k → NextIs test t from k
-  next_none p h = record { behind = p.behind; same = p.same; is = λ l. absurd (omega (arith, h, l)) }
-
   pub pass_on : {from k : ℕ} → Passing from k → k < length t.properties → test (property_in t k) ≡ false → Passing from (k + 1)
   pass_on p h e = record { behind = omega (arith, p.behind); same = p.same ∙ places_passed h e }
-
-  pub next-found : {from k : ℕ} → Passing from k → test (property_in t k) ≡ true → NextIs test t from k
-  next-found p e = record { behind = p.behind; same = p.same; is = λ _. e }
 
 pub live_same : {p : Property} {f : Fields} → FieldsAre p f → is_live (numbers_of f) ≡ is_live p
 live_same h = rw h.attribute

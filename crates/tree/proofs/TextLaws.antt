@@ -14,7 +14,7 @@ use lib.Dec.{eqb, ltb, eqb-suc-zero}
 use Rattle.protocol.specs.Bytes.{text, texts}
 use Rattle.protocol.specs.Request.{before_zero}
 use Rattle.protocol.specs.Buffer.{put_at, fitting, Put}
-use Rattle.protocol.proofs.BufferLaws.{set_put, Filling, fill_begins, fill_more, fill_full, fill_ends}
+use Rattle.protocol.proofs.BufferLaws.{set_put, Filling, fill_begins, fill_more, fill_ends}
 use Rattle.tree.specs.Seen.{first_text, after_text, texts_from}
 
 -- One text, as all of some texts.
@@ -88,9 +88,6 @@ copy_begins bs old at from count =
     record { gone = 0; fill = fill_begins (texts (texts_from count (drop from bs))) old at; rest = refl }
 
 module _ {bs all old : List ℕ} {at : ℕ} {out : List ℕ} {left next i : ℕ} (w : Copying bs all old at out left next i) where
-  pub copy_full : length out ≤ next → Put at (fitting at all old) old next out
-  copy_full h = fill_full all old at w.fill (omega (arith, w.fill.same_length))
-
   pub copy_ends : left ≡ 0 → Put at (fitting at all old) old next out
   unfolding texts texts_from
   copy_ends h =

@@ -1,15 +1,11 @@
 -- `cells::update::restore` meets its contract. Assumes nothing.
 use Prim.Native.Nat.{◌<◌, ◌≤◌}
-use mathlib.Core.Path.{◌≡◌, refl, sym, ap, subst, ◌∙◌}
-use mathlib.Core.Bool.{true}
+use mathlib.Core.Path.{◌≡◌, sym, subst, ◌∙◌}
 use Rattle.std.proofs.lemmas.Result.{err_from_is_err_and}
-use Rattle.protocol.specs.Numbers.{bit_live}
-use Rattle.protocol.specs.Bytes.{bit}
-use Rattle.protocol.specs.Refusal.{number_told}
 use Rattle.protocol.specs.Tree.{is_live, property_in}
 use Rattle.tree.specs.Seen.{seen}
-use Rattle.cells.specs.Lent.{is_lent}
-use Rattle.cells.proofs.CellLaws.{lent_done}
+use Rattle.tree.proofs.NextLaws.{live_same}
+use Rattle.cells.proofs.CellLaws.{lent_passed}
 use Rattle.cells.proofs.RestoreLaws.{restore_begins, restore_live, restore_other, restore_ends, restore_refused}
 use Rattle.cells.proofs.update.restore.Goals as goal
 use Rattle.cells.proofs.update.restore.Goals.{then-is_live, else-is_live}
@@ -21,14 +17,12 @@ returns-in_err-check c =
 
 pub loop-k-init : goal.loop-k-init
 loop-k-init c =
-    let lent : is_lent c.args.tree.now c.args.cells.now ≡ true =
-    lent_done c.args.tree.now c.args.cells.now (sym (ap number_told c.in_ok-check.was) ∙ c.check.ensures) refl in
-    restore_begins c.args.tree.now c.args.cells.now lent
+    restore_begins c.args.tree.now c.args.cells.now (lent_passed c.args.tree.now c.args.cells.now c.check.ensures c.in_ok-check.was)
 
 pub loop-k-preserved : goal.loop-k-preserved
 loop-k-preserved c =
     let live : is_live (property_in (seen c.args.tree.now) c.loop-k.k) ≡ c.is_live.result =
-    sym (c.is_live.ensures ∙ ap (bit bit_live) c.read_fields.ensures.attribute) in
+    sym (c.is_live.ensures ∙ live_same c.read_fields.ensures) in
     let tree = c.args.tree.now in
     let old = c.args.cells.now in
     let within = subst (λ n. c.loop-k.k < n) c.property_count-k-end.ensures c.loop-k-test.true in
@@ -39,7 +33,5 @@ loop-k-preserved c =
 
 pub returns : goal.returns
 returns c =
-    let lent : is_lent c.args.tree.now c.args.cells.now ≡ true =
-    lent_done c.args.tree.now c.args.cells.now (sym (ap number_told c.in_ok-check.was) ∙ c.check.ensures) refl in
-    restore_ends c.args.tree.now c.args.cells.now lent c.loop-k.invariant
+    restore_ends c.args.tree.now c.args.cells.now (lent_passed c.args.tree.now c.args.cells.now c.check.ensures c.in_ok-check.was) c.loop-k.invariant
     (subst (λ n. n ≤ c.loop-k.k) c.property_count-k-end.ensures c.loop-k-test.false)
