@@ -9,7 +9,6 @@ use mathlib.Core.Bool.{Bool, true, false, cond, false≢true, and-false}
 use mathlib.Core.List.{List, [], ◌∷◌, ◌++◌}
 use mathlib.Core.Option.{some, some-injective}
 use borrow.Author.Tests.{ltb-true, lt-ltb, le-ltb}
-use borrow.Author.Count.{below_more}
 use lib.ListN.{length, get_or, take, drop, set, length-drop, length-set, get_or-eq_default}
 use lib.Seq.{drop-drop, get_or-drop, get_or-append-add, set_out, set-set, get_or-set_same}
 use lib.Dec.{eqb, ltb}
@@ -23,6 +22,9 @@ use Rattle.protocol.proofs.BufferLaws.{set_put, put_behind}
 use borrow.Rule.Slice.PartMut.{put_mid}
 use mir.Val.{bool_byte}
 use Rattle.protocol.specs.declared.Refusal.{Refusal}
+use Rattle.std.specs.Bool.{MatchBool}
+use Rattle.std.specs.List.{AllWithin, HoldsAt, range_with_len}
+use Rattle.std.proofs.lemmas.List.FromFn.{length-range_with_len, get_or-range_with_len}
 use Rattle.std.proofs.Common.{Result, Ok}
 use Rattle.protocol.specs.Refusal.{refusal_number, number_told}
 use Rattle.protocol.proofs.RefusalLaws.{refusal_some}
@@ -176,26 +178,14 @@ all_seen (suc n) bs all h marks =
     subst (λ m. m ≤ 1) (ap (λ j. get_or bs j 0) i ∙ sym (get_or-drop cell_size bs (k * cell_size + 4) 0)) (marks (suc k) (omega (arith, q)))))
     ∙ cell-seen bs (all (omega (arith, h))) (omega (arith, h)) (marks 0 (omega arith))
 
--- The marks up to a place looked at. (Once one was read, all are known to be bytes.)
-pub record Checking (bs : List ℕ) (k : ℕ) : Type 0 where
-  pub within : k ≤ length bs / cell_size
-  pub bytes : 0 < k → Bytes bs
-  pub marks : (j : ℕ) → j < k → get_or bs (j * cell_size + 4) 0 ≤ 1
-
+-- Whole cells with their marks are the form of what is seen in them.
 module _ (bs : List ℕ) where
-  pub check_begins : Checking bs 0
-  check_begins = record { within = omega arith; bytes = λ h. absurd (not-suc-le-zero h); marks = λ j h. absurd (not-suc-le-zero h) }
-
-  pub check_more : {k : ℕ} → Checking bs k → k < length bs / cell_size → Bytes bs → get_or bs (k * cell_size + 4) 0 ≤ 1
-      → Checking bs (k + 1)
-  check_more {k} c h all m = record { within = omega arith; bytes = λ _. all; marks = below_more _ _ c.marks m }
-
-  pub check_ends : {k : ℕ} → Checking bs k → length bs / cell_size ≤ k → length bs % cell_size ≡ 0 → true ≡ has_cells bs
+  all_marked : Bytes bs → length bs % cell_size ≡ 0 → ((k : ℕ) → k < length bs / cell_size → get_or bs (k * cell_size + 4) 0 ≤ 1)
+      → true ≡ has_cells bs
   unfolding has_cells cells_in
-  check_ends {k} c h whole =
-      let n : ℕ = length bs / cell_size in
-      let form : cells_form (records_from cell_size cell_seen n bs) ≡ bs =
-      all_seen n bs (λ some_bytes. c.bytes (omega (arith, h, some_bytes, whole))) (omega (arith, whole)) (λ j q. c.marks j (omega (arith, q, h))) in
+  all_marked all whole marks =
+      let form : cells_form (records_from cell_size cell_seen (length bs / cell_size) bs) ≡ bs =
+      all_seen (length bs / cell_size) bs (λ _. all) (omega (arith, whole)) marks in
       sym (ap (same bs) form ∙ same_refl bs)
 
   -- What has no form.
@@ -216,6 +206,25 @@ module _ (bs : List ℕ) where
       let is : get_or bs (k * cell_size + 4) 0 ≡ get_or (cells_form (cells_in bs)) (k * cell_size + 4) 0 =
       ap (λ l. get_or l (k * cell_size + 4) 0) (form_of bs e) in
       omega (arith, h, is, mark_at (cells_in bs) k))
+
+  -- What a look at every mark tells.
+  module _ (n : ℕ) (e : n ≡ length bs / cell_size) where
+    place_is : (k d : ℕ) → k < n → get_or (range_with_len 0 n) k d ≡ k
+    place_is k d h = get_or-range_with_len 0 n k d h ∙ zero-add k
+
+    pub marks_told : (r : Bool) → Bytes bs → length bs % cell_size ≡ 0
+        → MatchBool r
+        (AllWithin (λ k. get_or bs (k * cell_size + 4) 0 ≤ 1) (range_with_len 0 n) 0 (length (range_with_len 0 n)))
+        ((k : ℕ) × (k < length (range_with_len 0 n)) × HoldsAt (λ k. 1 < get_or bs (k * cell_size + 4) 0) (range_with_len 0 n) k)
+        → r ≡ has_cells bs
+    marks_told true all whole m =
+        all_marked all whole
+        (λ k h.
+        let below : k < n = omega (arith, e, h) in
+        subst (λ i. get_or bs (i * cell_size + 4) 0 ≤ 1) (place_is k 0 below) (m k 0 (omega arith) (omega (arith, below, length-range_with_len 0 n))))
+    marks_told false all whole m =
+        let below : m.0 < n = omega (arith, m.1, length-range_with_len 0 n) in
+        not_marked m.0 (subst (λ i. 1 < get_or bs (i * cell_size + 4) 0) (place_is m.0 0 below) (m.2 0))
 
 -- A cell read by its place; a place past the end has the cell of zeros.
 pub cell_at : (bs : List ℕ) (k : ℕ) → k < length bs / cell_size → cell_in (cells_in bs) k ≡ cell_seen (drop (k * cell_size) bs)

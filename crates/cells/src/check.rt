@@ -12,15 +12,8 @@ use tree::record;
 pub fn has_cells(cells: &[u8]) -> bool
     ensures { result ≡ has_cells cells.now }
 {
-    if cells.len() % CELL_SIZE != 0 {
-        return false;
-    }
-    for k in 0..cells.len() / CELL_SIZE {
-        if 1 < cells[k * CELL_SIZE + 4] {
-            return false;
-        }
-    }
-    true
+    cells.len() % CELL_SIZE == 0
+        && (0..cells.len() / CELL_SIZE).all(|k| cells[k * CELL_SIZE + 4] <= 1)
 }
 
 // How many cells there are.

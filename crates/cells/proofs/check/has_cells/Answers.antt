@@ -1,21 +1,26 @@
 -- `cells::check::has_cells` meets its contract. Assumes nothing.
+use Prim.Native.Nat.{◌+◌, ◌-◌, ◌*◌, ◌/◌, ◌%◌, ◌<◌, ◌≤◌}
 use native.Mathlib.Omega.{arith}
-use Rattle.cells.proofs.CellLaws.{check_begins, check_more, check_ends, not_whole, not_marked}
+use mathlib.Core.Path.{refl, ◌∙◌}
+use borrow.Author.Tests.{ne_eqb}
+use lib.ListN.{length, get_or}
+use Rattle.std.proofs.Common.{rules, tests}
+use Rattle.std.proofs.lemmas.Iterator.{cases_from_all, YieldsList-from_range}
+use Rattle.cells.specs.Cells.{cell_size}
+use Rattle.cells.proofs.CellLaws.{not_whole, marks_told}
 use Rattle.cells.proofs.check.has_cells.Goals as goal
 
-pub returns-then-cells-ne0 : goal.returns-then-cells-ne0
-returns-then-cells-ne0 c = not_whole c.args.cells.now c.if-cells-ne0.true
+pub returns-then-cells-eq0 : goal.returns-then-cells-eq0
+returns-then-cells-eq0 c =
+    let bs = c.args.cells.now in
+    marks_told bs (length bs / cell_size - 0) (omega arith) c.all.result (λ i. omega (arith, c.type_inv.cells i)) c.if-cells-eq0.true
+    (cases_from_all _ _ _
+    (λ k. get_or bs (k * cell_size + 4) 0 ≤ 1)
+    (λ k. 1 < get_or bs (k * cell_size + 4) 0)
+    c.all.ensures.ran
+    (YieldsList-from_range 0 (length bs / cell_size) _ refl refl)
+    (λ x r k. search (rules, tests))
+    (λ x r k. search (rules, tests)))
 
-pub loop-k-init : goal.loop-k-init
-loop-k-init c = check_begins c.args.cells.now
-
-pub returns-then-cells-k-gt1 : goal.returns-then-cells-k-gt1
-returns-then-cells-k-gt1 c = not_marked c.args.cells.now c.loop-k.k c.if-cells-k-gt1.true
-
-pub loop-k-preserved : goal.loop-k-preserved
-loop-k-preserved c =
-    check_more c.args.cells.now c.loop-k.invariant c.loop-k-test.true
-    (λ i. omega (arith, c.type_inv.cells i)) c.if-cells-k-gt1.false
-
-pub returns : goal.returns
-returns c = check_ends c.args.cells.now c.loop-k.invariant c.loop-k-test.false c.if-cells-ne0.false
+pub returns-else-cells-eq0 : goal.returns-else-cells-eq0
+returns-else-cells-eq0 c = ne_eqb (length c.args.cells.now % cell_size) 0 c.if-cells-eq0.false ∙ not_whole c.args.cells.now c.if-cells-eq0.false
