@@ -6,7 +6,7 @@ ghost use Rattle.protocol.specs.Buffer.{fitting, Put};
 use protocol::DLE;
 
 // One byte at a place. Returns the next place.
-fn put(out: &mut [u8], at: usize, b: u8) -> usize
+pub(crate) fn put(out: &mut [u8], at: usize, b: u8) -> usize
     requires { at < length out.old }
     ensures { Put at (b ∷ []) out.old result out.new }
 {

@@ -35,11 +35,13 @@ fn put_frame(address: u8, payload: &[u8], out: &mut [u8]) -> usize
     requires { (length payload.now ≤ 256) × (520 ≤ length out.old) }
     ensures { Put 0 (frame address payload.now) out.old result out.new }
 {
-    let started = buffer::put_all(&[DLE, STX], out, 0);
+    let opened = buffer::put(out, 0, DLE);
+    let started = buffer::put(out, opened, STX);
     let addressed = buffer::put_doubled(out, started, address);
     let body = put_body(payload, out, addressed, address);
     let summed = buffer::put_doubled(out, body.at, 255 - body.sum);
-    buffer::put_all(&[DLE, ETX], out, summed)
+    let closing = buffer::put(out, summed, DLE);
+    buffer::put(out, closing, ETX)
 }
 
 // Data framed for an address: 8, 4, 5 or the length of the frame.
