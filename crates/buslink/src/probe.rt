@@ -8,6 +8,7 @@ ghost use Rattle.buslink.specs.Steps.{ProbeAt};
 
 use super::indicator::{AVAILABLE, BLANK, ERROR, Indicator, RAW};
 use cells::cell;
+use cells::lent::Lent;
 use tree::{live, range, record};
 
 // The number of a word, signed or not.
@@ -54,12 +55,12 @@ fn of_word(code: u8, signed: bool, w: u32) -> Indicator
 
 // What is sent for the live property at a place; all zero where there is no property. Whether it has a reading comes first: no
 // other word is looked at.
-pub(crate) fn indicator_at(tree: &[u8], cells: &[u8], place: usize) -> Indicator
-    ensures { result ≡ probe_indicator (seen tree.now) (cells_in cells.now) place }
+pub(crate) fn indicator_at(lent: Lent, place: usize) -> Indicator
+    ensures { result ≡ probe_indicator (seen lent.entry.tree.now) (cells_in lent.entry.cells.now) place }
 {
-    let f = record::read_fields(tree, place);
+    let f = record::read_fields(lent.tree, place);
     let code = (f.format & 7) as u8;
-    match cell::reading(tree, cells, place) {
+    match cell::reading(lent.tree, lent.cells, place) {
         Some(w) => of_word(code, range::takes_sign(f), w),
         None => Indicator {
             format: code,

@@ -10,31 +10,31 @@ ghost use Rattle.buslink.specs.Steps.{ProbeAt};
 use super::identifier::{FrameType, Station};
 use super::indicator::{BLANK, Indicator};
 use super::{DATA_SIZE, probe};
-use cells::check;
+use cells::lent::{self, Lent};
 use protocol::Refusal;
 use tree::{live, record};
 
 // The second indicator of a frame, by the place of the first one's probe: all zero in the last type, and where there is no probe.
-fn second(tree: &[u8], cells: &[u8], kind: FrameType, first: usize) -> Indicator
-    requires { ProbeAt (seen tree.now) (place_of kind.number) first }
-    ensures { result ≡ indicator_of (seen tree.now) (cells_in cells.now) (first_of kind.number + 1) }
+fn second(lent: Lent, kind: FrameType, first: usize) -> Indicator
+    requires { ProbeAt (seen lent.tree.now) (place_of kind.number) first }
+    ensures { result ≡ indicator_of (seen lent.entry.tree.now) (cells_in lent.entry.cells.now) (first_of kind.number + 1) }
 {
     if kind.is_last() {
         return BLANK;
     }
-    if record::property_count(tree) <= first {
+    if record::property_count(lent.tree) <= first {
         return BLANK;
     }
-    probe::indicator_at(tree, cells, live::next(tree, first + 1))
+    probe::indicator_at(lent, live::next(lent.tree, first + 1))
 }
 
 // The data of a frame of a type.
-fn data_of(tree: &[u8], cells: &[u8], kind: FrameType) -> [u8; 8]
-    ensures { result ≡ data_of (seen tree.now) (cells_in cells.now) kind.number }
+fn data_of(lent: Lent, kind: FrameType) -> [u8; 8]
+    ensures { result ≡ data_of (seen lent.entry.tree.now) (cells_in lent.entry.cells.now) kind.number }
 {
-    let place = probe::place_after(tree, kind.place());
-    let [a, b, c, d] = probe::indicator_at(tree, cells, place).to_bytes();
-    let [e, f, g, h] = second(tree, cells, kind, place).to_bytes();
+    let place = probe::place_after(lent.tree, kind.place());
+    let [a, b, c, d] = probe::indicator_at(lent, place).to_bytes();
+    let [e, f, g, h] = second(lent, kind, place).to_bytes();
     [a, b, c, d, e, f, g, h]
 }
 
@@ -49,12 +49,12 @@ pub fn send(
 ) -> Result<u32, Refusal>
     ensures { Sends (send_in tree.now cells.now base sub kind (length out.old)) out.old (number_told result) (identifier_told result) out.new }
 {
-    check::check(tree, cells)?;
+    let lent = lent::lend(tree, cells)?;
     if out.len() < DATA_SIZE {
         return Err(Refusal::NoRoom);
     }
     let station = Station::at(base, sub)?;
     let kind = FrameType::try_from(kind)?;
-    out[..DATA_SIZE].copy_from_slice(&data_of(tree, cells, kind));
+    out[..DATA_SIZE].copy_from_slice(&data_of(lent, kind));
     Ok(station.identifier(kind))
 }

@@ -12,10 +12,10 @@ overflow_cast-code c = record { fits = omega (arith, mask_lt c.read_fields-f.res
 
 pub returns-in-Some : goal.returns-in-Some
 returns-in-Some c =
-    probe_word (seen c.args.tree.now) (cells_in c.args.cells.now) c.args.place c.read_fields-f.ensures
+    probe_word (seen c.args.lent.tree.now) (cells_in c.args.lent.cells.now) c.args.place c.read_fields-f.ensures
     (sym c.in-Some.is ∙ c.reading.ensures) c.takes_sign.ensures c.of_word.ensures
 
 pub returns-in-None : goal.returns-in-None
 returns-in-None c =
-    probe_unready (seen c.args.tree.now) (cells_in c.args.cells.now) c.args.place c.read_fields-f.ensures
+    probe_unready (seen c.args.lent.tree.now) (cells_in c.args.lent.cells.now) c.args.place c.read_fields-f.ensures
     (sym c.in-None.is ∙ c.reading.ensures)

@@ -11,8 +11,8 @@ use Rattle.buslink.proofs.SendLaws.{Marked, probe_marked, indicator_marked, prob
 use Rattle.buslink.proofs.send.data_of.Goals as goal
 use Rattle.buslink.proofs.send.data_of.Goals.{After-place_after-place}
 
-at : (c : After-place_after-place) → ProbeAt (seen c.args.tree.now) (place_of c.args.kind.number) c.place_after-place.result
-at c = subst (λ n. ProbeAt (seen c.args.tree.now) n c.place_after-place.result) c.place.ensures c.place_after-place.ensures
+at : (c : After-place_after-place) → ProbeAt (seen c.args.lent.tree.now) (place_of c.args.kind.number) c.place_after-place.result
+at c = subst (λ n. ProbeAt (seen c.args.lent.tree.now) n c.place_after-place.result) c.place.ensures c.place_after-place.ensures
 
 pub to_bytes-requires : goal.to_bytes-requires
 to_bytes-requires c =
@@ -28,8 +28,8 @@ to_bytes-requires-2 c =
 pub returns : goal.returns
 returns c =
     let args = c.args in
-    let t = seen args.tree.now in
-    let cs = cells_in args.cells.now in
+    let t = seen args.lent.tree.now in
+    let cs = cells_in args.lent.cells.now in
     let types = type_parts _ args.kind.carries in
     data-joined t cs args.kind.number
     (c.indicator_at.ensures

@@ -26,23 +26,23 @@ in_frame c =
 pub returns-then-is_last : goal.returns-then-is_last
 returns-then-is_last c =
     let args = c.args in
-    none_behind (seen args.tree.now) (cells_in args.cells.now) (first_of args.kind.number) (omega (arith, eqb-true _ _ (sym c.if-is_last.ensures)))
+    none_behind (seen args.lent.tree.now) (cells_in args.lent.cells.now) (first_of args.kind.number) (omega (arith, eqb-true _ _ (sym c.if-is_last.ensures)))
 
 pub returns-then-property_count-first : goal.returns-then-property_count-first
 returns-then-property_count-first c =
     let args = c.args in
-    let past : length (seen args.tree.now).properties ≤ args.first = omega (arith, c.if-property_count-first.true, c.property_count.ensures) in
-    sym (shown_past (seen args.tree.now) (cells_in args.cells.now) args.first past)
-    ∙ probe_shown (seen args.tree.now) (cells_in args.cells.now) (first_of args.kind.number) (in_frame (goal.at.returns-then-property_count-first c).Else-is_last)
-    (probe_past (seen args.tree.now) _ _ (omega arith) c.requires past)
+    let past : length (seen args.lent.tree.now).properties ≤ args.first = omega (arith, c.if-property_count-first.true, c.property_count.ensures) in
+    sym (shown_past (seen args.lent.tree.now) (cells_in args.lent.cells.now) args.first past)
+    ∙ probe_shown (seen args.lent.tree.now) (cells_in args.lent.cells.now) (first_of args.kind.number) (in_frame (goal.at.returns-then-property_count-first c).Else-is_last)
+    (probe_past (seen args.lent.tree.now) _ _ (omega arith) c.requires past)
 
 pub returns : goal.returns
 returns c =
     let follows : let kind = c.args.kind.number in place_of kind + 1 ≡ first_of kind =
     omega (arith, (type_parts _ c.args.kind.carries).0) in
     let args = c.args in
-    let within : args.first < length (seen args.tree.now).properties = omega (arith, c.if-property_count-first.false, c.property_count.ensures) in
+    let within : args.first < length (seen args.lent.tree.now).properties = omega (arith, c.if-property_count-first.false, c.property_count.ensures) in
     c.indicator_at.ensures
-    ∙ probe_shown (seen args.tree.now) (cells_in args.cells.now) (first_of args.kind.number) (in_frame (goal.at.returns c).Else-is_last)
-    (subst (λ n. ProbeAt (seen args.tree.now) n c.next.result) follows
-    (probe_next (seen args.tree.now) (place_of args.kind.number) c.requires within c.next.ensures))
+    ∙ probe_shown (seen args.lent.tree.now) (cells_in args.lent.cells.now) (first_of args.kind.number) (in_frame (goal.at.returns c).Else-is_last)
+    (subst (λ n. ProbeAt (seen args.lent.tree.now) n c.next.result) follows
+    (probe_next (seen args.lent.tree.now) (place_of args.kind.number) c.requires within c.next.ensures))
