@@ -21,9 +21,9 @@ use Rattle.answer.specs.Serve.{action_number}
 abbrev pub of_string : ℕ → Bool
 of_string n = ltb 0 n && ltb n disabled
 
--- What was read, for the box to answer, or its refusal by one of those rows.
-abbrev pub Hears : Result Request Refusal → Result (Result Request Refusal) Refusal → Type 0
-Hears asked (Ok x) = (x ≡ asked) × (of_string (asked_of asked).number ≡ false)
+-- What was read is for the box to answer, or refused by one of those rows.
+abbrev pub Hears : Result Request Refusal → Result (Unit {0}) Refusal → Type 0
+Hears asked (Ok x) = of_string (asked_of asked).number ≡ false
 Hears asked (Err e) = (asked ≡ Err e) × (of_string (asked_of asked).number ≡ true)
 
 -- What was read, answered: 9 first, then 10 and 11, then 15, 16, and 12 or 13.

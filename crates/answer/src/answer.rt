@@ -12,7 +12,7 @@ ghost use Rattle.tree.specs.Seen.{seen};
 ghost use Rattle.cells.specs.Cells.{cells_in};
 ghost use Rattle.cells.specs.Lent.{is_lent};
 ghost use Rattle.request.specs.Asked.{request_in, asked_of};
-ghost use Rattle.answer.specs.Steps.{OutcomeIs, Refuses, answer_asked, Replies, Attempts};
+ghost use Rattle.answer.specs.Steps.{OutcomeIs, Refuses, answer_asked, Replies};
 
 use super::{Failure, Reply};
 use cells::cell;
@@ -32,9 +32,9 @@ fn put_code(out: &mut [u8], code: u8) -> usize
 }
 
 // The request's data, which every other reply begins with.
-fn put_request(request: Request, out: &mut [u8]) -> usize
+fn put_request(request: &Request, out: &mut [u8]) -> usize
     requires { 256 ≤ length out.old }
-    ensures { Put 0 (data_of (request_in request)) out.old result out.new }
+    ensures { Put 0 (data_of (request_in request.now)) out.old result out.new }
 {
     let op = u8::from(request.op);
     compose::put_data(
@@ -94,12 +94,11 @@ fn outcome_of(did: Outcome, place: usize) -> Result<Option<u8>, Failure>
     }
 }
 
-// A request that the table allows, the tree and cells that it is asked of, and the output for its reply.
+// A tree with cells that fit it, and the output for a reply.
 #[derive(Drop)]
 pub(crate) struct Exchange<'a> {
     pub tree: &'a [u8],
     pub cells: &'a mut [u8],
-    pub request: Request,
     pub out: &'a mut [u8],
     ghost lent: { is_lent tree.now cells.now ≡ true },
     ghost roomy: { 256 ≤ length out.now },
@@ -109,23 +108,22 @@ impl Exchange<'_> {
     ghost use Rattle.answer.specs.Exchange.{Exchanges};
 
     // Op 3.
-    fn on_read(&mut self, place: usize) -> Result<Reply, Failure>
-        requires { op_number self.old.request.op ≡ op_read }
-        ensures { Exchanges (on_read (cells_in self.old.cells.now) (property_in (seen self.old.tree.now) place) place (request_in self.old.request)) self.old result self.new }
+    fn on_read(&mut self, request: &Request, place: usize) -> Result<Reply, Failure>
+        requires { op_number request.now.op ≡ op_read }
+        ensures { Exchanges (on_read (cells_in self.old.cells.now) (property_in (seen self.old.tree.now) place) place (request_in request.now)) self.old result self.new }
     {
         let cells = &mut *self.cells;
         let word = cell::reading(self.tree, cells, place).ok_or(Refusal::NoReading)?;
-        let at = put_request(self.request, self.out);
+        let at = put_request(request, self.out);
         Ok(plain(reply::put_reading(word, self.out, at)))
     }
 
     // Ops 4 and 5.
-    fn on_write(&mut self, place: usize) -> Reply
-        requires op { op_read < op_number self.old.request.op }
+    fn on_write(&mut self, request: &Request, place: usize) -> Reply
+        requires op { op_read < op_number request.now.op }
         requires within { place < 256 }
-        ensures { Exchanges (on_write (cells_in self.old.cells.now) place (request_in self.old.request) (outcome (property_in (seen self.old.tree.now) place) self.old.request.value)) self.old (Ok result) self.new }
+        ensures { Exchanges (on_write (cells_in self.old.cells.now) place (request_in request.now) (outcome (property_in (seen self.old.tree.now) place) request.now.value)) self.old (Ok result) self.new }
     {
-        let request = self.request;
         let did = write::outcome_of(self.tree, place, request.value);
         let at = put_request(request, self.out);
         let len = reply::put_written(did, request.op, self.out, at);
@@ -140,104 +138,85 @@ impl Exchange<'_> {
     }
 
     // Ops 2 to 5, once the property is found.
-    fn on_property(&mut self, place: usize) -> Result<Reply, Failure>
-        requires op { op_node < op_number self.old.request.op }
+    fn on_property(&mut self, request: &Request, place: usize) -> Result<Reply, Failure>
+        requires op { op_node < op_number request.now.op }
         requires within { place < length (seen self.old.tree.now).properties }
-        ensures { Exchanges (on_property outcome (seen self.old.tree.now) (cells_in self.old.cells.now) (request_in self.old.request) place) self.old result self.new }
+        ensures { Exchanges (on_property outcome (seen self.old.tree.now) (cells_in self.old.cells.now) (request_in request.now) place) self.old result self.new }
     {
-        match self.request.op {
+        match request.op {
             Op::Record => {
-                let at = put_request(self.request, self.out);
+                let at = put_request(request, self.out);
                 Ok(plain(reply::put_record(self.tree, place, self.out, at)))
             }
-            Op::Read => self.on_read(place),
-            _ => Ok(self.on_write(place)),
+            Op::Read => self.on_read(request, place),
+            _ => Ok(self.on_write(request, place)),
         }
     }
 
     // Ops 1 to 5, once the node is found.
-    fn on_node(&mut self, node: usize) -> Result<Reply, Failure>
-        requires { op_detect < op_number self.old.request.op }
-        ensures { Exchanges (if_node outcome failure_number (seen self.old.tree.now) (cells_in self.old.cells.now) (request_in self.old.request) (some node)) self.old result self.new }
+    fn on_node(&mut self, request: &Request, node: usize) -> Result<Reply, Failure>
+        requires { op_detect < op_number request.now.op }
+        ensures { Exchanges (if_node outcome failure_number (seen self.old.tree.now) (cells_in self.old.cells.now) (request_in request.now) (some node)) self.old result self.new }
     {
-        if let Op::Node = self.request.op {
-            let at = put_request(self.request, self.out);
+        if let Op::Node = request.op {
+            let at = put_request(request, self.out);
             return Ok(plain(reply::put_node(self.tree, node, self.out, at)));
         }
-        let place = lookup::property(self.tree, node, self.request.index).ok_or(
+        let place = lookup::property(self.tree, node, request.index).ok_or(
             Refusal::NoSuchProperty,
         )?;
-        self.on_property(place)
+        self.on_property(request, place)
     }
 
-    // The request.
-    fn perform(&mut self) -> Result<Reply, Failure>
-        ensures { Exchanges (perform outcome failure_number (seen self.old.tree.now) (cells_in self.old.cells.now) (request_in self.old.request)) self.old result self.new }
+    // A request.
+    fn perform(&mut self, request: &Request) -> Result<Reply, Failure>
+        ensures { Exchanges (perform outcome failure_number (seen self.old.tree.now) (cells_in self.old.cells.now) (request_in request.now)) self.old result self.new }
     {
-        let request = self.request;
         if let Op::Detect = request.op {
             return Ok(plain(put_code(self.out, codes::ACK)));
         }
         match lookup::node(self.tree, request.path.as_slice()) {
-            Ok(node) => self.on_node(node),
+            Ok(node) => self.on_node(request, node),
             Err(Missing(part)) => Err(Failure::NoNode(part as u8)),
+        }
+    }
+
+    // What was read: 9, 10 or 11, else the request.
+    fn attempt(&mut self, host: bool, asked: &Result<Request, Refusal>) -> Result<Reply, Failure>
+        ensures { Exchanges (answer_asked (seen self.old.tree.now) (cells_in self.old.cells.now) host (asked_of asked.now)) self.old result self.new }
+    {
+        if !host {
+            return Err(Failure::Refused(Refusal::Disabled));
+        }
+        match asked {
+            Ok(request) => self.perform(request),
+            Err(refusal) => Err(Failure::Refused(*refusal)),
+        }
+    }
+
+    // The same, with a failure's code as its reply.
+    fn answer(&mut self, host: bool, asked: &Result<Request, Refusal>) -> Reply
+        ensures { Exchanges (answer_asked (seen self.old.tree.now) (cells_in self.old.cells.now) host (asked_of asked.now)) self.old (Ok result) self.new }
+    {
+        match self.attempt(host, asked) {
+            Ok(reply) => reply,
+            Err(failure) => refuse(failure, self.out),
         }
     }
 }
 
-// A request that was read.
-fn perform(
-    tree: &[u8],
-    cells: &mut [u8],
-    request: Request,
-    out: &mut [u8],
-) -> Result<Reply, Failure>
-    requires room { 256 ≤ length out.old }
-    requires lent { is_lent tree.now cells.old ≡ true }
-    ensures { Attempts (perform outcome failure_number (seen tree.now) (cells_in cells.old) (request_in request)) cells.old out.old result cells.new out.new }
-{
-    let mut exchange = Exchange {
-        tree,
-        cells,
-        request,
-        out,
-    };
-    exchange.perform()
-}
-
-// What was read: 9, 10 or 11, else the request.
-fn attempt(
-    tree: &[u8],
-    cells: &mut [u8],
-    host: bool,
-    asked: Result<Request, Refusal>,
-    out: &mut [u8],
-) -> Result<Reply, Failure>
-    requires room { 256 ≤ length out.old }
-    requires lent { is_lent tree.now cells.old ≡ true }
-    ensures { Attempts (answer_asked (seen tree.now) (cells_in cells.old) host (asked_of asked)) cells.old out.old result cells.new out.new }
-{
-    if !host {
-        return Err(Failure::Refused(Refusal::Disabled));
-    }
-    let request = asked?;
-    perform(tree, cells, request, out)
-}
-
-// The same, with a failure's code as its reply.
+// What was read, answered.
 pub(crate) fn answer(
     tree: &[u8],
     cells: &mut [u8],
     host: bool,
-    asked: Result<Request, Refusal>,
+    asked: &Result<Request, Refusal>,
     out: &mut [u8],
 ) -> Reply
     requires room { 256 ≤ length out.old }
     requires lent { is_lent tree.now cells.old ≡ true }
-    ensures { Replies (answer_asked (seen tree.now) (cells_in cells.old) host (asked_of asked)) out.old result cells.new out.new }
+    ensures { Replies (answer_asked (seen tree.now) (cells_in cells.old) host (asked_of asked.now)) out.old result cells.new out.new }
 {
-    match attempt(tree, cells, host, asked, out) {
-        Ok(reply) => reply,
-        Err(failure) => refuse(failure, out),
-    }
+    let mut exchange = Exchange { tree, cells, out };
+    exchange.answer(host, asked)
 }

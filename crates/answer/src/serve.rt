@@ -30,13 +30,13 @@ fn is_of_string(refusal: Refusal) -> bool
     u8::from(refusal) < u8::from(Refusal::Disabled)
 }
 
-// A string or datagram that was read, for the box to answer, unless it is refused by rows 2 to 7.
-fn heard(asked: Result<Request, Refusal>) -> Result<Result<Request, Refusal>, Refusal>
-    ensures { Hears asked result }
+// A string or datagram that was read is for the box to answer, unless it is refused by rows 2 to 7.
+fn check_string(asked: &Result<Request, Refusal>) -> Result<(), Refusal>
+    ensures { Hears asked.now result }
 {
     match asked {
-        Err(refusal) if is_of_string(refusal) => Err(refusal),
-        _ => Ok(asked),
+        Err(refusal) if is_of_string(*refusal) => Err(*refusal),
+        _ => Ok(()),
     }
 }
 
@@ -52,7 +52,8 @@ pub fn serve_data(
 {
     check_lent(tree, cells, out.len(), ROOM_DATA)?;
     frame::size::check_size(request.len())?;
-    Ok(answer::answer(tree, cells, host, read::read_data(request), out))
+    let asked = read::read_data(request);
+    Ok(answer::answer(tree, cells, host, &asked, out))
 }
 
 // A serial string served for the box's address, which its reply carries: 1, 8, 2, 3, 4, 5, 6, 7, 9, 10, 11, 15, 16, 12, 13 or 0.
@@ -67,9 +68,10 @@ pub fn serve_serial(
     ensures { Serves (serve_serial address (length out.old) s.now host tree.now cells.old) out.old (served_number result) (served_length result) (served_action result) (served_missing result) cells.new out.new }
 {
     check_lent(tree, cells, out.len(), ROOM_SERIAL)?;
-    let asked = heard(read::read_serial(address, s))?;
+    let asked = read::read_serial(address, s);
+    check_string(&asked)?;
     let mut payload = [0u8; 256];
-    let reply = answer::answer(tree, cells, host, asked, &mut payload);
+    let reply = answer::answer(tree, cells, host, &asked, &mut payload);
     let len = frame::write::write_frame(address, &payload[..reply.len], out)?;
     Ok(Reply {
         len,
@@ -88,8 +90,9 @@ pub fn serve_udp(
     ensures { Serves (serve_udp (length out.old) datagram.now host tree.now cells.old) out.old (served_number result) (served_length result) (served_action result) (served_missing result) cells.new out.new }
 {
     check_lent(tree, cells, out.len(), ROOM_UDP)?;
-    let asked = heard(read::read_udp(datagram))?;
-    let reply = answer::answer(tree, cells, host, asked, &mut out[4..]);
+    let asked = read::read_udp(datagram);
+    check_string(&asked)?;
+    let reply = answer::answer(tree, cells, host, &asked, &mut out[4..]);
     let front = frame::buffer::put_all(b"\0\0\0\0", out, 0);
     Ok(Reply {
         len: front + reply.len,

@@ -40,4 +40,4 @@ returns c =
     let k = call (goal.at.returns c).Start in
     let whole : k.string ≡ received c.args.request.now = sized-done c.args.request.now (sym (sym (ap number_told c.in_ok-check_size.was) ∙ c.check_size.ensures)) in
     serve_answered k (unrefused (goal.at.returns c).In_ok-check_lent) (ap (λ r. r.number) whole)
-    (as_data (answer_to k) (answered_as k (c.read_data.ensures.is ∙ ap (λ r. read_request r.payload) (sym whole)) c.answer.ensures))
+    (as_data (answer_to k) (answered_as k (c.read_data-asked.ensures.is ∙ ap (λ r. read_request r.payload) (sym whole)) c.answer.ensures))

@@ -1,7 +1,7 @@
 -- `answer::serve::serve_serial` meets its contract. Assumes nothing.
 use Prim.Native.Nat.{◌≤◌}
 use native.Mathlib.Omega.{arith}
-use mathlib.Core.Path.{refl, sym, ap, subst, ◌∙◌}
+use mathlib.Core.Path.{refl, sym, ap, ◌∙◌}
 use lib.ListN.{length, replicate}
 use Rattle.std.proofs.lemmas.Result.{err_from_is_err_and}
 use Rattle.protocol.specs.Refusal.{number_told, length_told}
@@ -14,7 +14,7 @@ use Rattle.answer.specs.Steps.{Replies}
 use Rattle.answer.proofs.ReadLaws.{Read, early_frame, row_of_string, row_of_data}
 use Rattle.answer.proofs.ServeLaws.{answer_to, opened, serve_unlent, serve-refused, serve_answered, replies, answered_as, serial_written, as_serial, reply_within}
 use Rattle.answer.proofs.serve.serve_serial.Goals as goal
-use Rattle.answer.proofs.serve.serve_serial.Goals.{Start, In_ok-check_lent, In_ok-asked, After-answer-reply}
+use Rattle.answer.proofs.serve.serve_serial.Goals.{Start, In_ok-check_lent, In_ok-check_string, After-answer-reply}
 
 abbrev call : Start → Call
 call c = serial_call c.args.address (length c.args.out.now) c.args.s.now c.args.host c.args.tree.now c.args.cells.now
@@ -31,21 +31,19 @@ returns-in_err-check_lent c =
     (serve_unlent (call (goal.at.returns-in_err-check_lent c).Start) c.in_err-check_lent.ensures (refusal_some e) (refl, (refl, (refl, refl))) c.args.out.now)
 
 -- Behind rows 2 to 7.
-good : (c : In_ok-asked) → Read (serial_call c.args.address (length c.args.out.now) c.args.s.now c.args.host c.args.tree.now c.args.cells.now).string c.in_ok-asked.asked
+good : (c : In_ok-check_string) → Read (serial_call c.args.address (length c.args.out.now) c.args.s.now c.args.host c.args.tree.now c.args.cells.now).string c.read_serial-asked.result
 unfolding read_serial
 good c =
     let k = serial_call c.args.address (length c.args.out.now) c.args.s.now c.args.host c.args.tree.now c.args.cells.now in
-    subst (Read k.string) (sym c.in_ok-asked.ensures.0)
-    (row_of_data k.string (early_frame c.args.address c.args.s.now) c.read_serial.ensures c.in_ok-asked.ensures.1)
+    row_of_data k.string (early_frame c.args.address c.args.s.now) c.read_serial-asked.ensures c.in_ok-check_string.ensures
 
 -- The answer.
 answered : (c : After-answer-reply) → Replies (answer_to (serial_call c.args.address (length c.args.out.now) c.args.s.now c.args.host c.args.tree.now c.args.cells.now)) (replicate 256 0) c.answer-reply.result c.answer-reply.new.cells c.answer-reply.new.out
 unfolding read_serial
 answered c =
     let k = serial_call c.args.address (length c.args.out.now) c.args.s.now c.args.host c.args.tree.now c.args.cells.now in
-    let asked : Read k.string c.in_ok-asked.asked =
-    subst (Read k.string) (sym c.in_ok-asked.ensures.0)
-    (row_of_data k.string (early_frame c.args.address c.args.s.now) c.read_serial.ensures c.in_ok-asked.ensures.1) in
+    let asked : Read k.string c.read_serial-asked.result =
+    row_of_data k.string (early_frame c.args.address c.args.s.now) c.read_serial-asked.ensures c.in_ok-check_string.ensures in
     answered_as k asked.is c.answer-reply.ensures
 
 within : (c : After-answer-reply) → c.answer-reply.result.len ≤ length c.answer-reply.new.out
@@ -54,16 +52,16 @@ within c =
     let open-call : Open k = opened k (sym (ap number_told c.in_ok-check_lent.was) ∙ c.check_lent.ensures) refl in
     reply_within (answer_to k) (replies k open-call) (omega arith) (answered c)
 
-pub returns-in_err-asked : goal.returns-in_err-asked
+pub returns-in_err-check_string : goal.returns-in_err-check_string
 unfolding read_serial
-returns-in_err-asked c =
-    let k = call (goal.at.returns-in_err-asked c).Start in
-    let e = c.in_err-asked.field-0.0 in
-    let exit = c.from_residual-in_err-asked in
+returns-in_err-check_string c =
+    let k = call (goal.at.returns-in_err-check_string c).Start in
+    let e = c.in_err-check_string.field-0.0 in
+    let exit = c.from_residual-in_err-check_string in
     let failed = err_from_is_err_and exit.result exit.ensures.1 in
-    let bad = row_of_string k.string (early_frame c.args.address c.args.s.now) c.read_serial.ensures c.in_err-asked.ensures.1 in
+    let bad = row_of_string k.string (early_frame c.args.address c.args.s.now) c.read_serial-asked.ensures c.in_err-check_string.ensures.1 in
     rw (failed.1, failed.2)
-    (serve-refused k (unrefused (goal.at.returns-in_err-asked c).In_ok-check_lent) (sym (ap (λ x. (asked_of x).number) c.in_err-asked.ensures.0) ∙ bad.number) bad.bad
+    (serve-refused k (unrefused (goal.at.returns-in_err-check_string c).In_ok-check_lent) (sym (ap (λ x. (asked_of x).number) c.in_err-check_string.ensures.0) ∙ bad.number) bad.bad
     (refl, (refl, (refl, refl))) c.args.out.now)
 
 pub slice_bounds-payload-end : goal.slice_bounds-payload-end
@@ -86,6 +84,6 @@ pub returns : goal.returns
 returns c =
     let k = call (goal.at.returns c).Start in
     let ready = unrefused (goal.at.returns c).In_ok-check_lent in
-    serve_answered k ready (good (goal.at.returns c).In_ok-asked).good
+    serve_answered k ready (good (goal.at.returns c).In_ok-check_string).good
     (rw (ap length_told c.in_ok-len.was) at
     (as_serial (answer_to k) (answered (goal.at.returns c).After-answer-reply) (replies k ready) c.args.address ready.roomy c.write_frame.ensures))

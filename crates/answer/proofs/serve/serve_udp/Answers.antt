@@ -1,6 +1,6 @@
 -- `answer::serve::serve_udp` meets its contract. Assumes nothing.
 use native.Mathlib.Omega.{arith}
-use mathlib.Core.Path.{refl, sym, ap, subst, ◌∙◌}
+use mathlib.Core.Path.{refl, sym, ap, ◌∙◌}
 use lib.ListN.{length, length-drop}
 use Rattle.std.proofs.lemmas.Result.{err_from_is_err_and}
 use Rattle.protocol.specs.Refusal.{number_told}
@@ -12,7 +12,7 @@ use Rattle.answer.specs.Serve.{Call, udp_call, Open}
 use Rattle.answer.proofs.ReadLaws.{Read, early_datagram, row_of_string, row_of_data}
 use Rattle.answer.proofs.ServeLaws.{answer_to, opened, serve_unlent, serve-refused, serve_answered, replies, answered_as, as_udp, front_short, reply_short}
 use Rattle.answer.proofs.serve.serve_udp.Goals as goal
-use Rattle.answer.proofs.serve.serve_udp.Goals.{Start, In_ok-check_lent, In_ok-asked}
+use Rattle.answer.proofs.serve.serve_udp.Goals.{Start, In_ok-check_lent, In_ok-check_string}
 
 abbrev call : Start → Call
 call c = udp_call (length c.args.out.now) c.args.datagram.now c.args.host c.args.tree.now c.args.cells.now
@@ -29,23 +29,22 @@ returns-in_err-check_lent c =
     (serve_unlent (call (goal.at.returns-in_err-check_lent c).Start) c.in_err-check_lent.ensures (refusal_some e) (refl, (refl, (refl, refl))) c.args.out.now)
 
 -- Behind rows 2 to 7.
-good : (c : In_ok-asked) → Read (udp_call (length c.args.out.now) c.args.datagram.now c.args.host c.args.tree.now c.args.cells.now).string c.in_ok-asked.asked
+good : (c : In_ok-check_string) → Read (udp_call (length c.args.out.now) c.args.datagram.now c.args.host c.args.tree.now c.args.cells.now).string c.read_udp-asked.result
 unfolding read_udp
 good c =
     let k = udp_call (length c.args.out.now) c.args.datagram.now c.args.host c.args.tree.now c.args.cells.now in
-    subst (Read k.string) (sym c.in_ok-asked.ensures.0)
-    (row_of_data k.string (early_datagram c.args.datagram.now) c.read_udp.ensures c.in_ok-asked.ensures.1)
+    row_of_data k.string (early_datagram c.args.datagram.now) c.read_udp-asked.ensures c.in_ok-check_string.ensures
 
-pub returns-in_err-asked : goal.returns-in_err-asked
+pub returns-in_err-check_string : goal.returns-in_err-check_string
 unfolding read_udp
-returns-in_err-asked c =
-    let k = call (goal.at.returns-in_err-asked c).Start in
-    let e = c.in_err-asked.field-0.0 in
-    let exit = c.from_residual-in_err-asked in
+returns-in_err-check_string c =
+    let k = call (goal.at.returns-in_err-check_string c).Start in
+    let e = c.in_err-check_string.field-0.0 in
+    let exit = c.from_residual-in_err-check_string in
     let failed = err_from_is_err_and exit.result exit.ensures.1 in
-    let bad = row_of_string k.string (early_datagram c.args.datagram.now) c.read_udp.ensures c.in_err-asked.ensures.1 in
+    let bad = row_of_string k.string (early_datagram c.args.datagram.now) c.read_udp-asked.ensures c.in_err-check_string.ensures.1 in
     rw (failed.1, failed.2)
-    (serve-refused k (unrefused (goal.at.returns-in_err-asked c).In_ok-check_lent) (sym (ap (λ x. (asked_of x).number) c.in_err-asked.ensures.0) ∙ bad.number) bad.bad
+    (serve-refused k (unrefused (goal.at.returns-in_err-check_string c).In_ok-check_lent) (sym (ap (λ x. (asked_of x).number) c.in_err-check_string.ensures.0) ∙ bad.number) bad.bad
     (refl, (refl, (refl, refl))) c.args.out.now)
 
 pub slice_bounds-answer-count : goal.slice_bounds-answer-count
@@ -67,13 +66,13 @@ overflow_add-result c =
     omega (
       arith,
       front_short _ c.put_all-front.ensures,
-      reply_short (answer_to k) (replies k (unrefused (goal.at.overflow_add-result c).In_ok-check_lent)) (answered_as k (good (goal.at.overflow_add-result c).In_ok-asked).is c.answer-reply.ensures),
+      reply_short (answer_to k) (replies k (unrefused (goal.at.overflow_add-result c).In_ok-check_lent)) (answered_as k (good (goal.at.overflow_add-result c).In_ok-check_string).is c.answer-reply.ensures),
     )
 
 pub returns : goal.returns
 returns c =
     let k = call (goal.at.returns c).Start in
     let ready = unrefused (goal.at.returns c).In_ok-check_lent in
-    let asked = good (goal.at.returns c).In_ok-asked in
+    let asked = good (goal.at.returns c).In_ok-check_string in
     serve_answered k ready asked.good
     (as_udp (answer_to k) (omega (arith, ready.roomy)) (answered_as k asked.is c.answer-reply.ensures) c.put_all-front.ensures)

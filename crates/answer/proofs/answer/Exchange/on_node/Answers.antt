@@ -18,15 +18,15 @@ use Rattle.answer.proofs.answer.Exchange.on_node.Goals as goal
 use Rattle.answer.proofs.answer.Exchange.on_node.Goals.{In_ok-place}
 
 -- The property that was found.
-there : (c : In_ok-place) → property_of (seen c.args.self.now.tree.now) c.args.node c.args.self.now.request.index ≡ some c.in_ok-place.place
+there : (c : In_ok-place) → property_of (seen c.args.self.now.tree.now) c.args.node c.args.request.now.index ≡ some c.in_ok-place.place
 there c =
-    found NoSuchProperty (property_of (seen c.args.self.now.tree.now) c.args.node c.args.self.now.request.index)
+    found NoSuchProperty (property_of (seen c.args.self.now.tree.now) c.args.node c.args.request.now.index)
     c.property.ensures c.ok_or.ensures.value c.in_ok-place.was
 
 pub returns-in-Node : goal.returns-in-Node
 returns-in-Node c =
     let self = c.args.self.now in
-    let asked = request_in self.request in
+    let asked = request_in c.args.request.now in
     let op = ap op_number c.in-Node.is in
     record {
       answers =
@@ -34,7 +34,7 @@ returns-in-Node c =
           (answers_as (is_node (seen self.tree.now) (cells_in self.cells.now) asked c.args.node op)
           (replied (lent_form self.tree.now self.cells.now self.lent)
           (put_node_reply asked c.put_request-at.ensures (seen self.tree.now) c.args.node
-          (omega (arith, self.roomy, node_short self.tree.now self.cells.now self.lent asked self.request.allowed c.args.node))
+          (omega (arith, self.roomy, node_short self.tree.now self.cells.now self.lent asked c.args.request.now.allowed c.args.node))
           op
           c.put_node.ensures)));
       same_cells = refl;
@@ -44,14 +44,14 @@ returns-in-Node c =
 pub returns-in_err-place : goal.returns-in_err-place
 returns-in_err-place c =
     let self = c.args.self.now in
-    let none = missing NoSuchProperty (property_of (seen self.tree.now) c.args.node self.request.index) c.property.ensures c.ok_or.ensures.value c.in_err-place.was in
+    let none = missing NoSuchProperty (property_of (seen self.tree.now) c.args.node c.args.request.now.index) c.property.ensures c.ok_or.ensures.value c.in_err-place.was in
     let failed = err_from_is_err_and c.from_residual.result c.from_residual.ensures.1 in
     rw (failed.1, failed.2, none.1)
     (record {
       answers =
           fails (Refused NoSuchProperty) self.cells.now self.out.now refl
-          (no_property_case (seen self.tree.now) (cells_in self.cells.now) (request_in self.request) c.args.node
-          (not_node self.request.op c.in_default.not-Node) none.0);
+          (no_property_case (seen self.tree.now) (cells_in self.cells.now) (request_in c.args.request.now) c.args.node
+          (not_node c.args.request.now.op c.in_default.not-Node) none.0);
       same_cells = refl;
       same_out = refl;
     })
@@ -60,8 +60,8 @@ pub on_property-requires : goal.on_property-requires
 on_property-requires c =
     let self = c.args.self.now in
     record {
-      op = above_node self.request.op (λ e. omega (arith, ap op_number e, c.requires)) c.in_default.not-Node;
-      within = property_below (seen self.tree.now) c.args.node self.request.index.0 c.in_ok-place.place (there (goal.at.on_property-requires c).In_ok-place);
+      op = above_node c.args.request.now.op (λ e. omega (arith, ap op_number e, c.requires)) c.in_default.not-Node;
+      within = property_below (seen self.tree.now) c.args.node c.args.request.now.index.0 c.in_ok-place.place (there (goal.at.on_property-requires c).In_ok-place);
     }
 
 pub returns : goal.returns
@@ -70,8 +70,8 @@ returns c =
     record {
       answers =
           attempts_as self.cells.now self.out.now c.on_property.result c.on_property.new.self.cells.now c.on_property.new.self.out.now
-          (at_property_lem (seen self.tree.now) (cells_in self.cells.now) (request_in self.request) c.args.node
-          (not_node self.request.op c.in_default.not-Node) (there (goal.at.returns c).In_ok-place))
+          (at_property_lem (seen self.tree.now) (cells_in self.cells.now) (request_in c.args.request.now) c.args.node
+          (not_node c.args.request.now.op c.in_default.not-Node) (there (goal.at.returns c).In_ok-place))
           c.on_property.ensures.answers;
       same_cells = c.on_property.ensures.same_cells;
       same_out = c.on_property.ensures.same_out;

@@ -15,14 +15,14 @@ pub on_write-requires : goal.on_write-requires
 on_write-requires c =
     let self = c.args.self.now in
     record {
-      op = above_read self.request.op c.requires.op c.in_default.not-Record c.in_default.not-Read;
+      op = above_read c.args.request.now.op c.requires.op c.in_default.not-Record c.in_default.not-Read;
       within = place-fits self.tree.now self.cells.now self.lent c.args.place c.requires.within;
     }
 
 pub returns-in-Record : goal.returns-in-Record
 returns-in-Record c =
     let self = c.args.self.now in
-    let asked = request_in self.request in
+    let asked = request_in c.args.request.now in
     let op = ap op_number c.in-Record.is in
     record {
       answers =
@@ -30,7 +30,7 @@ returns-in-Record c =
           (answers_as (is_record (seen self.tree.now) (cells_in self.cells.now) asked c.args.place op)
           (replied (lent_form self.tree.now self.cells.now self.lent)
           (put_record_reply asked c.put_request-at.ensures (property_in (seen self.tree.now) c.args.place)
-          (omega (arith, self.roomy, record-short self.tree.now self.cells.now self.lent asked self.request.allowed c.args.place))
+          (omega (arith, self.roomy, record-short self.tree.now self.cells.now self.lent asked c.args.request.now.allowed c.args.place))
           op
           c.put_record.ensures)));
       same_cells = refl;
@@ -43,7 +43,7 @@ returns-in-Read c =
     record {
       answers =
           attempts_as self.cells.now self.out.now c.on_read.result c.on_read.new.self.cells.now c.on_read.new.self.out.now
-          (is_reading (seen self.tree.now) (cells_in self.cells.now) (request_in self.request) c.args.place (ap op_number c.in-Read.is))
+          (is_reading (seen self.tree.now) (cells_in self.cells.now) (request_in c.args.request.now) c.args.place (ap op_number c.in-Read.is))
           c.on_read.ensures.answers;
       same_cells = c.on_read.ensures.same_cells;
       same_out = c.on_read.ensures.same_out;
@@ -55,8 +55,8 @@ returns-in_default c =
     record {
       answers =
           answers_as
-          (is_write (seen self.tree.now) (cells_in self.cells.now) (request_in self.request) c.args.place
-          (above_read self.request.op c.requires.op c.in_default.not-Record c.in_default.not-Read))
+          (is_write (seen self.tree.now) (cells_in self.cells.now) (request_in c.args.request.now) c.args.place
+          (above_read c.args.request.now.op c.requires.op c.in_default.not-Record c.in_default.not-Read))
           c.on_write.ensures.answers;
       same_cells = c.on_write.ensures.same_cells;
       same_out = c.on_write.ensures.same_out;

@@ -26,7 +26,7 @@ returns-in_err-word c =
       answers =
           rw (failed.1, failed.2, none.1)
           (fails (Refused NoReading) self.cells.now self.out.now refl
-          (read_refused (cells_in self.cells.now) p c.args.place (request_in self.request) (reading_none p cell none.0)));
+          (read_refused (cells_in self.cells.now) p c.args.place (request_in c.args.request.now) (reading_none p cell none.0)));
       same_cells = refl;
       same_out = refl;
     }
@@ -36,7 +36,7 @@ returns c =
     let self = c.args.self.now in
     let p = property_in (seen self.tree.now) c.args.place in
     let cell = cell_in (cells_in self.cells.now) c.args.place in
-    let asked = request_in self.request in
+    let asked = request_in c.args.request.now in
     let is = reading_some p cell (found NoReading (reading p cell) c.reading.ensures c.ok_or.ensures.value c.in_ok-word.was) in
     record {
       answers =
@@ -45,7 +45,7 @@ returns c =
           (read_replied (cells_in self.cells.now) p c.args.place asked is.0)
           (replied (lent_form self.tree.now self.cells.now self.lent)
           (put_read_reply asked c.put_request-at.ensures cell
-          (omega (arith, self.roomy, (read_size asked (path_short asked self.request.allowed) cell).most))
+          (omega (arith, self.roomy, (read_size asked (path_short asked c.args.request.now.allowed) cell).most))
           c.requires
           is.1
           c.put_reading.ensures)));

@@ -22,17 +22,17 @@ wrote : (c : After-put_written-len) {did : Outcome} {n action missing : ℕ} {ce
     → let self = c.args.self.now in
     let cs = cells_in self.cells.now in
     meaning c.outcome_of-did.result ≡ did → n ≡ write_number did → action ≡ action_number (action_of did c.args.place) → missing ≡ 0
-    → cells ≡ cells_form (cells_after did cs c.args.place self.request.value)
+    → cells ≡ cells_form (cells_after did cs c.args.place c.args.request.now.value)
     → Answers
-    (on_write cs c.args.place (request_in self.request) (outcome (property_in (seen self.tree.now) c.args.place) self.request.value))
+    (on_write cs c.args.place (request_in c.args.request.now) (outcome (property_in (seen self.tree.now) c.args.place) c.args.request.now.value))
     self.out.now n c.put_written-len.result action missing cells c.put_written-len.new.out
 wrote c is number action missing cells =
     let self = c.args.self.now in
-    let asked = request_in self.request in
+    let asked = request_in c.args.request.now in
     let o = meaning c.outcome_of-did.result in
     writes (cells_in self.cells.now) c.args.place asked c.outcome_of-did.ensures is
     (put_write_reply asked c.put_request-at.ensures o
-    (omega (arith, self.roomy, (write_size asked (path_short asked self.request.allowed) o).most))
+    (omega (arith, self.roomy, (write_size asked (path_short asked c.args.request.now.allowed) o).most))
     c.requires.op
     c.put_written-len.ensures)
     number refl action missing cells
@@ -40,10 +40,10 @@ wrote c is number action missing cells =
 pub invariant_of-self-in-Saved-clause-lent : goal.invariant_of-self-in-Saved-clause-lent
 invariant_of-self-in-Saved-clause-lent c =
     let self = c.args.self.now in
-    let r = request_in self.request in
+    let r = request_in c.args.request.now in
     rw c.store_word.ensures
-    (lent_stored self.tree.now self.cells.now self.lent c.args.place self.request.value
-    (value-fits r (fitting r self.request.allowed).rest c.requires.op))
+    (lent_stored self.tree.now self.cells.now self.lent c.args.place c.args.request.now.value
+    (value-fits r (fitting r c.args.request.now.allowed).rest c.requires.op))
 
 pub returns-in-Saved : goal.returns-in-Saved
 unfolding action_of cells_after write_number
@@ -53,7 +53,7 @@ returns-in-Saved c =
       answers =
           replies_as c.plain.ensures
           (wrote (goal.at.returns-in-Saved c).After-put_written-len (ap meaning c.in-Saved.is) refl refl refl
-          (saved_cells (cells_in self.cells.now) c.args.place self.request.value (lent_form self.tree.now self.cells.now self.lent) c.store_word.ensures));
+          (saved_cells (cells_in self.cells.now) c.args.place c.args.request.now.value (lent_form self.tree.now self.cells.now self.lent) c.store_word.ensures));
       same_cells = refl;
       same_out = refl;
     }
@@ -66,7 +66,7 @@ returns c =
       answers =
           wrote (goal.at.returns c).After-put_written-len refl told.number told.acts told.tells
           (lent_form self.tree.now self.cells.now self.lent
-          ∙ ap cells_form (sym (unsaved c.outcome_of-did.result (cells_in self.cells.now) c.args.place self.request.value c.in_default.not-Saved)));
+          ∙ ap cells_form (sym (unsaved c.outcome_of-did.result (cells_in self.cells.now) c.args.place c.args.request.now.value c.in_default.not-Saved)));
       same_cells = refl;
       same_out = refl;
     }
