@@ -1,5 +1,5 @@
 -- 01, Requests and replies: what reading a request hands back.
-use Rattle.std.specs.Prelude.{ℕ, ◌≡◌, List, length, replicate, Result, Ok, Err, IfOk}
+use Rattle.std.specs.Prelude.{ℕ, ◌≡◌, List, replicate, Result, Ok, Err, IfOk}
 use Rattle.protocol.specs.declared.Refusal.{Refusal}
 use Rattle.protocol.specs.Numbers.{done, max_depth}
 use Rattle.protocol.specs.Buffer.{over}

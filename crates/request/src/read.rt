@@ -54,7 +54,8 @@ fn read_valued(op: Op, bs: &[u8]) -> Result<Request, Refusal>
     ensures { AskedIs (read_valued (op_number op) bs.now) result }
 {
     let end = word::before_zero(bs);
-    let [_, first, second, third, last] = &bs[end..] else {
+    let rest = &bs[end..];
+    let [_, first, second, third, last] = rest else {
         return Err(Refusal::BadParameter);
     };
     let value = word::word_of(*first, *second, *third, *last);

@@ -1,14 +1,12 @@
 -- `compose::put_data` meets its contract. Assumes nothing.
-use native.Mathlib.Omega.{arith}
 use mathlib.Core.Path.{ap}
 use mathlib.Core.List.{[], ◌∷◌}
-use lib.ListN.{length, take}
+use lib.ListN.{take}
 use Rattle.protocol.specs.Numbers.{PDI}
 use Rattle.protocol.specs.Bytes.{word}
 use Rattle.protocol.specs.Buffer.{fitting, Put}
-use Rattle.protocol.proofs.ListLaws.{part_size}
 use Rattle.protocol.proofs.BufferLaws.{fit_as, fits_join}
-use Rattle.compose.proofs.WriteLaws.{data-path, data-index, data-value, length-word}
+use Rattle.compose.proofs.WriteLaws.{data-path, data-index, data-value}
 use Rattle.compose.proofs.put_data.Goals as goal
 use Rattle.compose.proofs.put_data.Goals.{After-put_all-addressed}
 
@@ -19,9 +17,6 @@ with-path c =
 pub returns-then-op-le-OP_NODE : goal.returns-then-op-le-OP_NODE
 returns-then-op-le-OP_NODE c =
     fit_as (data-path c.args.op c.args.path.now c.args.index.0 c.args.value c.if-op-le-OP_NODE.true) (with-path (goal.at.returns-then-op-le-OP_NODE c).After-put_all-addressed)
-
-pub slice_bounds-put_all-end-then-op-le-OP_READ : goal.slice_bounds-put_all-end-then-op-le-OP_READ
-slice_bounds-put_all-end-then-op-le-OP_READ c = part_size 1 c.tail_of-tail.result (omega (arith, ap length c.tail_of-tail.ensures, length-word c.args.value))
 
 pub returns-then-op-le-OP_READ : goal.returns-then-op-le-OP_READ
 returns-then-op-le-OP_READ c =
