@@ -8,7 +8,7 @@ use mathlib.Core.List.{List, [], ◌∷◌, ◌++◌}
 use lib.ListN.{length, length-append}
 use Rattle.protocol.specs.Buffer.{Put, farthest, Laid}
 use Rattle.protocol.specs.Text.{each, digit, decimal, hex, line, answer_key}
-use Rattle.protocol.proofs.LayLaws.{laid_join, laid_put}
+use Rattle.protocol.proofs.LayLaws.{laid_put}
 use Rattle.protocol.proofs.DecimalLaws.{decimal_small, decimal_more}
 use Rattle.console.specs.Lines.{reply_key, lines}
 
@@ -45,7 +45,6 @@ lines_short number reply h =
       length-hex reply,
     )
 
-pub lines_put : {number told r : ℕ} {old mid new : List ℕ} (reply : List ℕ) → number < 1000 → 18 + 2 * length reply ≤ length old → length old < farthest
-    → Laid 0 (line answer_key (decimal number)) old told mid → Laid told (line reply_key (hex reply)) mid r new → Put 0 (lines number reply) old r new
-unfolding lines
-lines_put {number} reply h room k p q = laid_put (omega (arith, room, lines_short number reply h)) k (laid_join k p q)
+pub lines_put : {number r : ℕ} {old new : List ℕ} (reply : List ℕ) → number < 1000 → 18 + 2 * length reply ≤ length old → length old < farthest
+    → Laid 0 (lines number reply) old r new → Put 0 (lines number reply) old r new
+lines_put {number} reply h room k p = laid_put (omega (arith, room, lines_short number reply h)) k p

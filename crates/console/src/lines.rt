@@ -1,13 +1,24 @@
 // The lines of a frame, put into a lent buffer.
-ghost use Rattle.std.specs.Prelude.{◌+◌, ◌*◌, ◌≤◌, length};
-ghost use Rattle.protocol.specs.Buffer.{Put};
+ghost use Rattle.protocol.specs.Buffer.{Laid};
+ghost use Rattle.text.specs.Lays.{Lays};
 ghost use Rattle.console.specs.Lines.{lines};
 
-// The two lines of a frame, at the front: its number, and the serial reply in hex.
-pub(crate) fn put_lines(number: u8, reply: &[u8], out: &mut [u8]) -> usize
-    requires { 18 + 2 * length reply.now ≤ length out.old }
-    ensures { Put 0 (lines number reply.now) out.old result out.new }
+use text::line::Hex;
+use text::output::Output;
+
+// The two lines of a frame: its number, and the serial reply in hex.
+fn put_both(number: u8, reply: &[u8], output: &mut Output)
+    ensures { Lays (lines number reply.now) output.old output.new }
 {
-    let told = text::line::put_number(b"answer", number as u32, out, 0);
-    text::line::put_hex(b"reply", reply, out, told)
+    output.put_line(b"answer", u32::from(number));
+    output.put_line(b"reply", Hex(reply));
+}
+
+// The same at the front of a buffer.
+pub(crate) fn put_lines(number: u8, reply: &[u8], out: &mut [u8]) -> usize
+    ensures { Laid 0 (lines number reply.now) out.old result out.new }
+{
+    let mut output = Output { bytes: out, at: 0 };
+    put_both(number, reply, &mut output);
+    output.at
 }

@@ -1,54 +1,56 @@
 -- `console::bench::serve_lines` meets its contract. Assumes nothing.
-use Prim.Native.Nat.{◌≤◌}
-use native.Mathlib.Omega.{arith}
-use mathlib.Core.Path.{subst}
-use mathlib.Core.Bool.{true}
-use lib.ListN.{length, take, replicate}
-use lib.Seq.{length-take-le}
-use Rattle.protocol.specs.Numbers.{room_serial, room_data}
-use Rattle.protocol.specs.Frame.{write_frame, if_room}
-use Rattle.protocol.specs.Buffer.{Emits}
+use Rattle.std.proofs.Common.{length-take, [], ◌≡◌, ◌≤◌, true, length, take, subst, arith}
+use Rattle.protocol.specs.Numbers.{room_data}
+use Rattle.protocol.specs.Refusal.{length_told}
 use Rattle.protocol.proofs.ListLaws.{part_size}
 use Rattle.answer.specs.Serve.{serve_data}
-use Rattle.console.specs.Bench.{bench_address, served}
+use Rattle.console.specs.Bench.{served}
 use Rattle.console.specs.Steps.{ServesLines}
-use Rattle.console.proofs.StepLaws.{front_within, lined}
+use Rattle.console.proofs.LinesLaws.{lines_put}
+use Rattle.console.proofs.StepLaws.{front_within, told_or_0, lined, lined_refused}
 use Rattle.console.proofs.bench.serve_lines.Goals as goal
-use Rattle.console.proofs.bench.serve_lines.Goals.{After-serve_data-told, After-write_frame-framed}
+use Rattle.console.proofs.bench.serve_lines.Goals.{In-Ok, After-number_of}
 
 -- The reply lies in its array, and its frame in its own.
-reply_within : (c : After-serve_data-told) → c.serve_data-told.result.len ≤ length c.serve_data-told.new.out
+reply_within : (c : In-Ok) → c.in-Ok.told.len ≤ length c.serve_data.new.out
 reply_within c =
-    front_within _ _ c.serve_data-told.ensures.len c.serve_data-told.ensures.bytes
+    let served = c.in-Ok.ensures in
+    front_within _ _ served.len served.bytes
 
-wire-within : (c : After-write_frame-framed) → c.write_frame-framed.result.len ≤ length c.write_frame-framed.new.out
-wire-within c =
-    front_within _ _ c.write_frame-framed.ensures.len c.write_frame-framed.ensures.bytes
+wire_within : (c : After-number_of) → c.unwrap_or-size.result ≤ length c.write_frame.new.out
+wire_within c =
+    let size : c.unwrap_or-size.result ≡ length_told c.write_frame.result = told_or_0 c.write_frame.result c.unwrap_or-size.ensures in
+    omega (arith, size, front_within _ _ c.write_frame.ensures.len c.write_frame.ensures.bytes)
 
 pub slice_bounds-reply-end : goal.slice_bounds-reply-end
-slice_bounds-reply-end c = reply_within (goal.at.slice_bounds-reply-end c).After-serve_data-told
+slice_bounds-reply-end c = reply_within c
 
 pub slice_bounds-write_frame-end : goal.slice_bounds-write_frame-end
-slice_bounds-write_frame-end c =
-    part_size c.serve_data-told.result.len c.serve_data-told.new.out (reply_within (goal.at.slice_bounds-write_frame-end c).After-serve_data-told)
+slice_bounds-write_frame-end c = part_size c.in-Ok.told.len c.serve_data.new.out (reply_within (goal.at.slice_bounds-write_frame-end c).In-Ok)
 
 pub slice_bounds-wire-end : goal.slice_bounds-wire-end
-slice_bounds-wire-end c = wire-within (goal.at.slice_bounds-wire-end c).After-write_frame-framed
+slice_bounds-wire-end c = wire_within c
 
 pub slice_bounds-put_lines-end : goal.slice_bounds-put_lines-end
 slice_bounds-put_lines-end c =
-    part_size c.write_frame-framed.result.len c.write_frame-framed.new.out (wire-within (goal.at.slice_bounds-put_lines-end c).After-write_frame-framed)
+    part_size c.unwrap_or-size.result c.write_frame.new.out (wire_within (goal.at.slice_bounds-put_lines-end c).After-number_of)
 
-pub put_lines-requires : goal.put_lines-requires
-put_lines-requires c =
-    omega (arith, c.requires, wire-within (goal.at.put_lines-requires c).After-write_frame-framed, length-take-le c.write_frame-framed.result.len c.write_frame-framed.new.out (wire-within (goal.at.put_lines-requires c).After-write_frame-framed))
-
-pub returns : goal.returns
+pub returns-in-Ok : goal.returns-in-Ok
 unfolding served
-returns c =
-    let emitted : Emits (if_room room_serial 520 (write_frame bench_address (take c.serve_data-told.result.len c.serve_data-told.new.out)))
-    (replicate 520 0) c.write_frame-framed.result.number c.write_frame-framed.result.len c.write_frame-framed.new.out = c.write_frame-framed.ensures in
+returns-in-Ok c =
     subst (λ t. ServesLines (serve_data room_data c.args.request.now true t c.args.cells.now) c.args.out.now
-    c.put_lines.result c.serve_data-told.new.cells c.put_lines.new.out)
+    c.put_lines.result c.serve_data.new.cells c.put_lines.new.out)
     c.tree-tree.ensures
-    (lined (serve_data room_data c.args.request.now true c.tree-tree.result c.args.cells.now) c.serve_data-told.ensures (omega arith) emitted c.put_lines.ensures)
+    (lined (serve_data room_data c.args.request.now true c.tree-tree.result c.args.cells.now) c.in-Ok.ensures (omega arith)
+    c.write_frame.ensures c.number_of.ensures (told_or_0 c.write_frame.result c.unwrap_or-size.ensures)
+    (lines_put (take c.unwrap_or-size.result c.write_frame.new.out) (omega arith)
+    (omega (arith, c.requires, length-take c.unwrap_or-size.result c.write_frame.new.out)) (omega arith) c.put_lines.ensures))
+
+pub returns-in-Err : goal.returns-in-Err
+unfolding served
+returns-in-Err c =
+    subst (λ t. ServesLines (serve_data room_data c.args.request.now true t c.args.cells.now) c.args.out.now
+    c.put_lines-in-Err.result c.serve_data.new.cells c.put_lines-in-Err.new.out)
+    c.tree-tree.ensures
+    (lined_refused (serve_data room_data c.args.request.now true c.tree-tree.result c.args.cells.now) c.in-Err.ensures
+    c.from.ensures (lines_put [] (omega arith) (omega arith) (omega arith) c.put_lines-in-Err.ensures))
