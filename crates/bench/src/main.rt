@@ -2,33 +2,23 @@
 // and its cases). What it does with each part of the input is `console::bench::step`.
 #![tactic(auto)]
 
-ghost use Rattle.std.specs.Prelude.{◌≡◌, true};
+ghost use Rattle.std.specs.Prelude.{◌≡◌, true, IfOk};
 ghost use Rattle.stream.specs.State.{has_form};
 ghost use Rattle.console.specs.Steps.{Progress};
 
 use std::io;
 use std::io::Read;
 
-// How many bytes a step took, and whether its lines could be written.
-#[derive(Drop)]
-pub(crate) struct Told {
-    pub taken: usize,
-    pub written: io::Result<()>,
-}
-
-// One step over a part of the input, and its lines written.
-fn show(rt: &impl Print, state: &mut [u8], cells: &mut [u8], bytes: &[u8]) -> Told
+// One step over a part of the input, and its lines written. Returns how many bytes it took.
+fn show(rt: &impl Print, state: &mut [u8], cells: &mut [u8], bytes: &[u8]) -> io::Result<usize>
     requires { has_form state.old ≡ true }
-    ensures { Progress bytes.now result.taken state.new }
+    ensures form { has_form state.new ≡ true }
+    ensures progress { IfOk result (λ taken. Progress bytes.now taken state.new) }
 {
     let mut text = [0u8; 1058];
     let shown = console::bench::step(state, cells, bytes, &mut text);
-    let len = shown.len;
-    let written = rt.write_all(&text[..len]);
-    Told {
-        taken: shown.taken,
-        written,
-    }
+    rt.write_all(&text[..shown.len])?;
+    Ok(shown.taken)
 }
 
 // All of a part of the input, step by step. Fails only where a line could not be written.
@@ -36,11 +26,10 @@ fn show_all(rt: &impl Print, state: &mut [u8], cells: &mut [u8], bytes: &[u8]) -
     requires { has_form state.old ≡ true }
     ensures { has_form state.new ≡ true }
 {
-    let mut at = 0;
-    while at < bytes.len() {
-        let told = show(rt, state, cells, &bytes[at..]);
-        at += told.taken;
-        told.written?;
+    let mut rest = bytes;
+    while !rest.is_empty() {
+        let taken = show(rt, state, cells, rest)?;
+        rest = &rest[taken..];
     }
     Ok(())
 }

@@ -34,9 +34,8 @@ fn serve_lines(cells: &mut [u8], request: &[u8], out: &mut [u8]) -> usize
     match answer::serve::serve_data(&tree, cells, true, request, &mut reply) {
         Ok(told) => {
             let mut wire = [0u8; 520];
-            let size = frame::write::write_frame(ADDRESS, &reply[..told.len], &mut wire).unwrap_or(
-                0,
-            );
+            let framed = frame::write::write_frame(ADDRESS, &reply[..told.len], &mut wire);
+            let size = framed.unwrap_or(0);
             lines::put_lines(number_of(told.outcome), &wire[..size], out)
         }
         Err(refusal) => lines::put_lines(u8::from(refusal), &[], out),

@@ -17,10 +17,10 @@ reply_within c =
     let served = c.in-Ok.ensures in
     front_within _ _ served.len served.bytes
 
-wire_within : (c : After-number_of) → c.unwrap_or-size.result ≤ length c.write_frame.new.out
+wire_within : (c : After-number_of) → c.unwrap_or-size.result ≤ length c.write_frame-framed.new.out
 wire_within c =
-    let size : c.unwrap_or-size.result ≡ length_told c.write_frame.result = told_or_0 c.write_frame.result c.unwrap_or-size.ensures in
-    omega (arith, size, front_within _ _ c.write_frame.ensures.len c.write_frame.ensures.bytes)
+    let size : c.unwrap_or-size.result ≡ length_told c.write_frame-framed.result = told_or_0 c.write_frame-framed.result c.unwrap_or-size.ensures in
+    omega (arith, size, front_within _ _ c.write_frame-framed.ensures.len c.write_frame-framed.ensures.bytes)
 
 pub slice_bounds-reply-end : goal.slice_bounds-reply-end
 slice_bounds-reply-end c = reply_within c
@@ -33,7 +33,7 @@ slice_bounds-wire-end c = wire_within c
 
 pub slice_bounds-put_lines-end : goal.slice_bounds-put_lines-end
 slice_bounds-put_lines-end c =
-    part_size c.unwrap_or-size.result c.write_frame.new.out (wire_within (goal.at.slice_bounds-put_lines-end c).After-number_of)
+    part_size c.unwrap_or-size.result c.write_frame-framed.new.out (wire_within (goal.at.slice_bounds-put_lines-end c).After-number_of)
 
 pub returns-in-Ok : goal.returns-in-Ok
 unfolding served
@@ -42,9 +42,9 @@ returns-in-Ok c =
     c.put_lines.result c.serve_data.new.cells c.put_lines.new.out)
     c.tree-tree.ensures
     (lined (serve_data room_data c.args.request.now true c.tree-tree.result c.args.cells.now) c.in-Ok.ensures (omega arith)
-    c.write_frame.ensures c.number_of.ensures (told_or_0 c.write_frame.result c.unwrap_or-size.ensures)
-    (lines_put (take c.unwrap_or-size.result c.write_frame.new.out) (omega arith)
-    (omega (arith, c.requires, length-take c.unwrap_or-size.result c.write_frame.new.out)) (omega arith) c.put_lines.ensures))
+    c.write_frame-framed.ensures c.number_of.ensures (told_or_0 c.write_frame-framed.result c.unwrap_or-size.ensures)
+    (lines_put (take c.unwrap_or-size.result c.write_frame-framed.new.out) (omega arith)
+    (omega (arith, c.requires, length-take c.unwrap_or-size.result c.write_frame-framed.new.out)) (omega arith) c.put_lines.ensures))
 
 pub returns-in-Err : goal.returns-in-Err
 unfolding served
