@@ -4,7 +4,7 @@ use Prim.Native.Nat.{ℕ, zero, suc, ◌+◌, ◌-◌, ◌*◌, ◌^◌, ◌<◌
 use native.Mathlib.Omega.{arith}
 use mathlib.Core.Path.{◌≡◌, refl, sym, ap, subst, ◌∙◌}
 use mathlib.Core.Bool.{Bool, true, false, cond, ◌&&◌}
-use borrow.Author.Tests.{eq-eqb, ne_eqb, leb-true, ltb-true, ltb-false, lt-ltb, le-ltb, le-leb, lt-leb}
+use borrow.Author.Tests.{eq-eqb, ne_eqb, leb-true, ltb-true, ltb-false, le-leb, lt-leb}
 use lib.Dec.{eqb, ltb, leb}
 use mir.Syntax.{Width}
 use mir.Val.{SFits, hbits}
@@ -96,15 +96,15 @@ module _ (code : ℕ) (signed : Bool) (w : ℕ) (bound : w < word_end) {z : ℤ}
 
 -- A value of 24 bits, and its word.
 module _ (n : Number) (told : Told n) where
-  in_range : lt_z (integer_of n) (neg_ℤ (pos 8388608)) ≡ false → lt_z (pos 8388607) (integer_of n) ≡ false → fits n ≡ true
+  in_range : lt_z (integer_of n) (neg_ℤ (pos 8388608)) ≡ false → lt_z (integer_of n) (pos 8388608) ≡ true → fits n ≡ true
   unfolding integer_of fits
   in_range = go n.below n.size told
     where
-      go : (t : Bool) (s : ℕ) → (t ≡ true → 0 < s) → lt_z (cond t (neg_ℤ (pos s)) (pos s)) (neg_ℤ (pos 8388608)) ≡ false → lt_z (pos 8388607) (cond t (neg_ℤ (pos s)) (pos s)) ≡ false
+      go : (t : Bool) (s : ℕ) → (t ≡ true → 0 < s) → lt_z (cond t (neg_ℤ (pos s)) (pos s)) (neg_ℤ (pos 8388608)) ≡ false → lt_z (cond t (neg_ℤ (pos s)) (pos s)) (pos 8388608) ≡ true
           → cond t (leb s (2 ^ 23)) (ltb s (2 ^ 23)) ≡ true
       go true zero h a b = refl
       go true (suc s) h a b = le-leb (suc s) (2 ^ 23) (omega (arith, ltb-false 8388607 s a))
-      go false s h a b = lt-ltb s (2 ^ 23) (omega (arith, ltb-false 8388607 s b))
+      go false s h a b = b
 
   below_range : lt_z (integer_of n) (neg_ℤ (pos 8388608)) ≡ true → fits n ≡ false
   unfolding integer_of fits
@@ -115,14 +115,14 @@ module _ (n : Number) (told : Told n) where
       go true (suc s) a = lt-leb (suc s) (2 ^ 23) (omega (arith, ltb-true 8388607 s a))
       go false s a = cc
 
-  above_range : lt_z (pos 8388607) (integer_of n) ≡ true → fits n ≡ false
+  above_range : lt_z (integer_of n) (pos 8388608) ≡ false → fits n ≡ false
   unfolding integer_of fits
   above_range = go n.below n.size
     where
-      go : (t : Bool) (s : ℕ) → lt_z (pos 8388607) (cond t (neg_ℤ (pos s)) (pos s)) ≡ true → cond t (leb s (2 ^ 23)) (ltb s (2 ^ 23)) ≡ false
+      go : (t : Bool) (s : ℕ) → lt_z (cond t (neg_ℤ (pos s)) (pos s)) (pos 8388608) ≡ false → cond t (leb s (2 ^ 23)) (ltb s (2 ^ 23)) ≡ false
       go true zero a = cc
       go true (suc s) a = cc
-      go false s a = le-ltb s (2 ^ 23) (omega (arith, ltb-true 8388607 s a))
+      go false s a = a
 
   word_is : of_z w32 (integer_of n) ≡ word_for n
   unfolding integer_of word_for
@@ -139,13 +139,13 @@ module _ (code : ℕ) (n : Number) (told : Told n) {z : ℤ} (is : z ≡ integer
   unfolding valued
   sent_below h = rw (below_range n told (sym (ap (λ z. lt_z z (neg_ℤ (pos 8388608))) is) ∙ h))
 
-  pub sent_above : lt_z (pos 8388607) z ≡ true → record { value = 0; status = available + error; format = code } ≡ valued code n
+  pub sent_above : lt_z z (pos 8388608) ≡ false → record { value = 0; status = available + error; format = code } ≡ valued code n
   unfolding valued
-  sent_above h = rw (above_range n told (sym (ap (lt_z (pos 8388607)) is) ∙ h))
+  sent_above h = rw (above_range n told (sym (ap (λ z. lt_z z (pos 8388608)) is) ∙ h))
 
-  pub sent_value : lt_z z (neg_ℤ (pos 8388608)) ≡ false → lt_z (pos 8388607) z ≡ false → {v : ℕ} → v ≡ of_z w32 (to_z w32 (of_z w32 z))
+  pub sent_value : lt_z z (neg_ℤ (pos 8388608)) ≡ false → lt_z z (pos 8388608) ≡ true → {v : ℕ} → v ≡ of_z w32 (to_z w32 (of_z w32 z))
       → record { value = v; status = available; format = code } ≡ valued code n
   unfolding valued
   sent_value low high e =
-      let fit : fits n ≡ true = in_range n told (sym (ap (λ z. lt_z z (neg_ℤ (pos 8388608))) is) ∙ low) (sym (ap (lt_z (pos 8388607)) is) ∙ high) in
+      let fit : fits n ≡ true = in_range n told (sym (ap (λ z. lt_z z (neg_ℤ (pos 8388608))) is) ∙ low) (sym (ap (λ z. lt_z z (pos 8388608)) is) ∙ high) in
       rw (fit, e, is, to_z-of_z w32 (integer_of n) (integer_fits w32 n (omega (arith, fits-size n fit))), word_is n told)

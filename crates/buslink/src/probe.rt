@@ -39,17 +39,17 @@ fn of_word(code: u8, signed: bool, w: u32) -> Indicator
     ensures { result ≡ valued code (scaled code (number_of signed w)) }
 {
     let value = value_in(code, signed, w);
-    if value < -0x80_0000 || 0x7F_FFFF < value {
-        return Indicator {
-            value: 0,
+    match value {
+        -0x80_0000..=0x7F_FFFF => Indicator {
+            value: (value as i32).cast_unsigned(),
+            status: AVAILABLE,
+            format: code,
+        },
+        _ => Indicator {
             status: AVAILABLE | ERROR,
             format: code,
-        };
-    }
-    Indicator {
-        value: (value as i32).cast_unsigned(),
-        status: AVAILABLE,
-        format: code,
+            ..BLANK
+        },
     }
 }
 

@@ -25,9 +25,8 @@ pub fn indicator_of(table: &[u8], n: u8) -> Result<Indicator, Refusal>
     if table.len() != TABLE_SIZE {
         return Err(Refusal::Unsound);
     }
-    let n = usize::from(n);
-    if n < 1 || INDICATORS < n {
-        return Err(Refusal::BadIdentifier);
+    match usize::from(n) {
+        n @ 1..=INDICATORS => Ok(Indicator::from_bytes(&table[(n - 1) * INDICATOR_SIZE..])),
+        _ => Err(Refusal::BadIdentifier),
     }
-    Ok(Indicator::from_bytes(&table[(n - 1) * INDICATOR_SIZE..]))
 }

@@ -1,14 +1,9 @@
 -- `buslink::probe::indicator_at` meets its contract. Assumes nothing.
-use native.Mathlib.Omega.{arith}
 use mathlib.Core.Path.{sym, ◌∙◌}
-use lib.Bits.{mask_lt}
 use Rattle.tree.specs.Seen.{seen}
 use Rattle.cells.specs.Cells.{cells_in}
 use Rattle.buslink.proofs.SendLaws.{probe_unready, probe_word}
 use Rattle.buslink.proofs.probe.indicator_at.Goals as goal
-
-pub overflow_cast-code : goal.overflow_cast-code
-overflow_cast-code c = record { fits = omega (arith, mask_lt c.read_fields-f.result.format 3) }
 
 pub returns-in-Some : goal.returns-in-Some
 returns-in-Some c =
