@@ -63,9 +63,6 @@ module _ (t : Tree) (s : List ℕ) (k : ℕ) where
   others : Tests t (every (differs t s)) (λ i ks. differs t s i)
   others = every_tests t (differs t s)
 
-  pub differing_begins : {now : Settings} → Starts t (k + 1) now → Differing t s k now
-  differing_begins b = record { tree = b.tree; decides = ap (every (differs t s)) (sym b.rest_is) }
-
   module _ {now next : Settings} {j : ℕ} {r : Bool} (y : Differing t s k now) (n : Next t now j next) (e : r ≡ same_text s (label_at t j)) where
     pub differing_fails : r ≡ true → false ≡ every (differs t s) (settings_from t (k + 1))
     differing_fails f = try_fails _ _ _ others y n (ap not (sym e ∙ f))

@@ -38,7 +38,7 @@ eqb_turned a b = go (eqb b a) refl
     go true e = eq-eqb a b (sym (eqb-true b a e)) ∙ sym e
     go false e = ne_eqb a b (λ h. eqb-false b a e (sym h)) ∙ sym e
 
-pub strips_begins : (front bs : List ℕ) → pointwise eqb (take (length front) bs) front ≡ begins front bs
+strips_begins : (front bs : List ℕ) → pointwise eqb (take (length front) bs) front ≡ begins front bs
 unfolding begins
 strips_begins [] [] = refl
 strips_begins [] (b ∷ bs) = refl

@@ -36,7 +36,7 @@ starts_begins (c ∷ front) (b ∷ bs) = ap (λ t. eqb c b && t) (starts_begins 
 pub word_fits : {n : ℕ} → n < word_end → in_word n ≡ Some n
 word_fits {n} h = ap (λ b. cond b (Some n) None) (lt-ltb n word_end h)
 
-pub word_beyond : {n : ℕ} → word_end ≤ n → in_word n ≡ None
+word_beyond : {n : ℕ} → word_end ≤ n → in_word n ≡ None
 word_beyond {n} h = ap (λ b. cond b (Some n) None) (le-ltb n word_end h)
 
 -- The first i bytes are digits, and what follows decides how many there are.
@@ -163,10 +163,7 @@ module _ {stands signed : Bool} {n : Number} {size : ℕ} where
     pub told_size : r.size ≡ size
     told_size = t.bytes ∙ ap (λ b. cond b size 0) (sym t.is ∙ h)
 
--- Behind a minus there is no numeral, or a 0.
-pub minus_none : (bs : List ℕ) → is_numeral bs ≡ false → (is_numeral bs && not (eqb (get_or bs 0 0) 48)) ≡ false
-minus_none bs h = ap (λ t. t && not (eqb (get_or bs 0 0) 48)) h
-
+-- Behind a minus there is a 0.
 pub minus_zero : (bs : List ℕ) → get_or bs 0 0 ≡ 48 → (is_numeral bs && not (eqb (get_or bs 0 0) 48)) ≡ false
 minus_zero bs h = ap (λ t. is_numeral bs && not t) (eq-eqb (get_or bs 0 0) 48 h) ∙ and-false (is_numeral bs)
 

@@ -52,7 +52,7 @@ module _ (text : List ℕ → List ℕ) (bs : List ℕ) {start now : Output} {i 
         lays = lays_as (sym (ap (λ n. text (take n bs)) (add-one i) ∙ ap text (take-suc bs i 0 k) ∙ e)) (lays_join t.lays p);
       }
 
-  pub tell_ends : length bs ≤ i → Lays (text bs) start now
+  tell_ends : length bs ≤ i → Lays (text bs) start now
   tell_ends h = lays_as (ap text (take_all i bs h)) t.lays
 
 -- A hex digit: a numeral, and a letter.

@@ -1,12 +1,8 @@
 -- `sheet::label::differs_behind` meets its contract. Assumes nothing.
 use Rattle.tree.specs.Seen.{seen}
-use Rattle.sheet.proofs.SettingLaws.{starts, next_of}
-use Rattle.sheet.proofs.LabelLaws.{differing_begins, differing_fails, differing_on, differing_ends}
+use Rattle.sheet.proofs.SettingLaws.{next_of}
+use Rattle.sheet.proofs.LabelLaws.{differing_fails, differing_on, differing_ends}
 use Rattle.sheet.proofs.label.differs_behind.Goals as goal
-
-pub loop-j-init : goal.loop-j-init
-loop-j-init c =
-    differing_begins (seen c.args.tree.now) c.args.s.now c.args.k (starts c.args.tree c.into_iter-j-iterator.ensures.into_iter_gives)
 
 pub returns-then-is_label : goal.returns-then-is_label
 returns-then-is_label c =

@@ -8,9 +8,6 @@ loop-k-init c =
     ranging_begins c.args.lent.tree.now c.args.lent.cells.now
     (starts c.args.lent.tree c.into_iter-k-iterator.ensures.into_iter_gives)
 
-pub is_in_range-requires : goal.is_in_range-requires
-is_in_range-requires c = let next = next_of c.loop-k.invariant.tree c.in-Some.ensures.steps in next.is
-
 pub returns-then-not-is_in_range : goal.returns-then-not-is_in_range
 returns-then-not-is_in_range c =
     ranging_fails c.args.lent.tree.now c.args.lent.cells.now c.loop-k.invariant (next_of c.loop-k.invariant.tree c.in-Some.ensures.steps)

@@ -3,11 +3,8 @@ use native.Mathlib.Omega.{arith}
 use mathlib.Core.Path.{sym, ap, ◌∙◌}
 use Rattle.protocol.proofs.SignedLaws.{digits_inside, numeral_inside}
 use Rattle.text.specs.Read.{negated}
-use Rattle.text.proofs.ReadLaws.{told_none, minus_none, minus_zero, told_minus}
+use Rattle.text.proofs.ReadLaws.{told_none, minus_zero, told_minus}
 use Rattle.text.proofs.read.below_zero.Goals as goal
-
-pub returns-then-not-is_numeral : goal.returns-then-not-is_numeral
-returns-then-not-is_numeral c = told_none (minus_none c.args.bs.now (sym c.if-not-is_numeral.ensures))
 
 pub bounds-bs-0 : goal.bounds-bs-0
 bounds-bs-0 c = omega (arith, numeral_inside c.args.bs.now (sym c.if-not-is_numeral.ensures))

@@ -2,11 +2,8 @@
 use native.Mathlib.Omega.{arith}
 use mathlib.Core.Path.{sym}
 use Rattle.protocol.proofs.SignedLaws.{digits_inside}
-use Rattle.text.proofs.ReadLaws.{told_none, told_plain}
+use Rattle.text.proofs.ReadLaws.{told_plain}
 use Rattle.text.proofs.read.plain.Goals as goal
-
-pub returns-then-not-is_numeral : goal.returns-then-not-is_numeral
-returns-then-not-is_numeral c = told_none (sym c.if-not-is_numeral.ensures)
 
 pub overflow_add-result : goal.overflow_add-result
 overflow_add-result c = omega (arith, c.read_digits-d.ensures.len, digits_inside c.args.bs.now)

@@ -11,9 +11,6 @@ loop-k-init c =
     put_begins (seen lent.tree.now) (cells_in lent.cells.now) c.args.output.now
     (starts lent.tree c.into_iter-k-iterator.ensures.into_iter_gives)
 
-pub put_setting-requires : goal.put_setting-requires
-put_setting-requires c = let next = next_of c.loop-k.invariant.tree c.in-Some.ensures.steps in next.is
-
 pub loop-k-preserved : goal.loop-k-preserved
 loop-k-preserved c =
     let lent = c.args.self.lent in
