@@ -1,6 +1,6 @@
-// The definitions of the protocol are in specs/, and what is proved of them in proofs/. No code runs here: this file has the
-// two types that keep node numbers and property indexes apart, in the definitions and in every crate above, and the numbers
-// that code needs, under the names of specs/Numbers.antt.
+// The definitions of the protocol are in specs/, and what is proved of them in proofs/. This file has the types that every crate above
+// shares: node numbers and property indexes, which it keeps apart, refusals, operations and (path) a path as code keeps it; and the
+// codes and limits that code needs, under the names of specs/Numbers.antt.
 #![tactic(auto)]
 
 pub mod codes;
@@ -17,7 +17,8 @@ pub struct NodeNumber(pub u8);
 #[derive(Clone, Copy)]
 pub struct PropertyIndex(pub u8);
 
-// Why a call refuses (document 01, Numbers returned; document 02). The numbers are those that C is told.
+// Why a call refuses (document 01, Numbers returned; document 02, sections 7, 3 and 5, from 15, 17 and 19 on). The numbers are those
+// that C is told.
 #[derive(Clone, Copy, Debug, PartialEq, Eq)]
 pub enum Refusal {
     Unsound = 1,
@@ -87,51 +88,8 @@ impl TryFrom<u8> for Op {
     }
 }
 
-// Numbers returned (document 01).
+// What C is told where a call refuses nothing (document 01, Numbers returned), and where it ended no frame.
 pub const DONE: u8 = 0;
-
-pub const UNSOUND: u8 = 1;
-
-pub const NO_PREAMBLE: u8 = 2;
-
-pub const BAD_PAIR: u8 = 3;
-
-pub const TOO_SHORT: u8 = 4;
-
-pub const TOO_LONG: u8 = 5;
-
-pub const BAD_CHECKSUM: u8 = 6;
-
-pub const OTHER_ADDRESS: u8 = 7;
-
-pub const NO_ROOM: u8 = 8;
-
-pub const DISABLED: u8 = 9;
-
-pub const UNKNOWN_COMMAND: u8 = 10;
-
-pub const BAD_PARAMETER: u8 = 11;
-
-pub const NO_READING: u8 = 12;
-
-pub const NOT_SAVED: u8 = 13;
-
-pub const NOT_LIVE: u8 = 14;
-
-// Numbers returned (document 02, section 7).
-pub const NO_SUCH_NODE: u8 = 15;
-
-pub const NO_SUCH_PROPERTY: u8 = 16;
-
-// Numbers returned (document 02, section 3).
-pub const BAD_SHEET: u8 = 17;
-
-pub const NOT_IN_RANGE: u8 = 18;
-
-// Numbers returned (document 02, section 5).
-pub const BAD_IDENTIFIER: u8 = 19;
-
-pub const BAD_LENGTH: u8 = 20;
 
 pub const NO_FRAME: u8 = 255;
 
@@ -145,20 +103,12 @@ pub const ETX: u8 = 0x03;
 
 pub const DLE: u8 = 0x10;
 
-// The command of PDI, and its operations (document 003, sections 4 and 5).
+// The command of PDI, and the last operations that ask for a path alone and for no value (document 003, sections 4 and 5).
 pub const PDI: u8 = 0xB4;
-
-pub const OP_DETECT: u8 = 0;
 
 pub const OP_NODE: u8 = 1;
 
-pub const OP_RECORD: u8 = 2;
-
 pub const OP_READ: u8 = 3;
-
-pub const OP_WRITE: u8 = 4;
-
-pub const OP_WRITE_EXTENDED: u8 = 5;
 
 // Record types (document 003, 5.3).
 pub const STANDARD: u8 = 1;
