@@ -14,14 +14,6 @@ pub struct Lent<'a> {
     ghost lent: { is_lent tree.now cells.now ≡ true },
 }
 
-// The same, with cells that may be changed: `check::check` comes before it is made.
-#[derive(Drop)]
-pub struct LentMut<'a> {
-    pub tree: &'a [u8],
-    pub cells: &'a mut [u8],
-    ghost lent: { is_lent tree.now cells.now ≡ true },
-}
-
 // Tree and cells are refused with 1, or lent.
 pub fn lend<'a>(tree: &'a [u8], cells: &'a [u8]) -> Result<Lent<'a>, Refusal>
     ensures number { number_told result ≡ lent_number tree.now cells.now }
