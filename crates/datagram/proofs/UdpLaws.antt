@@ -62,10 +62,6 @@ data-from-4 s h =
     take_all (length s - 4) (drop 4 s) (omega (arith, length-drop 4 s))
     ∙ ap (drop 4) (read_datagram_only s h).written
 
-pub data-long : (s : List ℕ) → (read_datagram s).number ≡ done → 4 ≤ length s
-unfolding datagram
-data-long s h = omega (arith, ap length (read_datagram_only s h).written)
-
 -- Data at the front of the part from byte 4 on, and four zeros before it, are a datagram at the front.
 pub zeros_before : (d old part : List ℕ) → 4 ≤ length old → part ≡ over d (drop 4 old)
     → over (0 ∷ 0 ∷ 0 ∷ 0 ∷ []) (take 4 old ++ part) ≡ over (datagram d) old

@@ -13,7 +13,7 @@ use Rattle.protocol.specs.Buffer.{over, Put, Emits}
 use Rattle.protocol.proofs.TestLaws.{eqb_same}
 use Rattle.protocol.proofs.ListLaws.{init_last, sum_snoc, bytes_left, bytes_drop}
 use Rattle.protocol.proofs.FrameLaws.{double_snoc, bytes_undouble, double-undouble, parts, is_summed, judge_by, judge_whole_by, is_opened, read_frame_by, read_frame_only, read_frame-refused}
-use Rattle.protocol.proofs.BufferLaws.{put_emits, put_nil, puts, length_put, over_nil}
+use Rattle.protocol.proofs.BufferLaws.{put_emits, put_nil, puts, over_nil}
 use Rattle.protocol.specs.declared.Refusal.{Refusal}
 use Rattle.protocol.specs.declared.Refusal.TheVariants.{NoPreamble, BadPair, TooShort, TooLong, BadChecksum, OtherAddress}
 use Rattle.protocol.specs.Refusal.{refusal_number}
@@ -144,10 +144,6 @@ module _ (s : List ℕ) (from n : ℕ) (old : List ℕ) (room : n ≤ length old
       let two : i + 2 ≡ i + 1 + 1 = omega arith in
       subst (λ m. Copying s from n old out' m k') two
       (copy_more c h l p (sym (ap (λ t. length (cond t (DLE ∷ DLE ∷ []) (get_or s i 0 ∷ []))) (eq-eqb (get_or s i 0) DLE e))))
-
-  pub copy_same : {out : List ℕ} {i k : ℕ} → Copying s from n old out i k → length out ≡ length old
-  copy_same {k = k} c =
-      ap length c.put.bytes ∙ length_put old 0 c.bytes (omega (arith, c.put.next, c.within, room))
 
   pub copy_all : {out : List ℕ} {i k : ℕ} → Copying s from n old out i k → n ≤ k → Put 0 (content_from n (drop from s)) old k out
   copy_all {out} {i} {k} c h =

@@ -1,22 +1,13 @@
 -- Where the first zero stands.
 -- Assumes nothing.
-use Rattle.std.proofs.Common.{◌≡◌, ℕ, suc, eq-eqb, ne_eqb, ◌∷◌, Bool, true, false, not, Some, None, sym, ◌∙◌, ltb-false, cond, eqb, ltb, List, length, refl, arith}
+use Rattle.std.proofs.Common.{◌≡◌, ℕ, Bool, true, false, not, Some, None, sym, ◌∙◌, ltb-false, cond, eqb, ltb, List, length, refl, arith}
 use Rattle.std.specs.List.{position_or_len, position}
 use Rattle.std.specs.Option.{unwrap_or}
 use Rattle.std.proofs.lemmas.List.Sums.{prefix_len-le-length}
 use Rattle.std.proofs.lemmas.List.Recursion.{is_position_or_len}
 use Rattle.protocol.specs.Request.{before_zero}
 
--- The first zero, by the first byte.
-pub zero_first : (b : ℕ) (bs : List ℕ) → b ≡ 0 → before_zero (b ∷ bs) ≡ 0
-unfolding before_zero
-zero_first b bs e = rw (eq-eqb b 0 e)
-
-pub zero_later : (b : ℕ) (bs : List ℕ) → (b ≡ 0 → ⊥) → before_zero (b ∷ bs) ≡ suc (before_zero bs)
-unfolding before_zero
-zero_later b bs e = rw (ne_eqb b 0 e)
-
--- The same as a place that is sought.
+-- How many bytes stand before the first zero, as a place that is sought.
 first_zero : (bs : List ℕ) → before_zero bs ≡ position_or_len (λ b. eqb b 0) bs
 unfolding before_zero
 first_zero bs = is_position_or_len before_zero (λ b. eqb b 0) refl (λ b bs. grind arith) bs
