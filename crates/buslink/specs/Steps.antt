@@ -1,9 +1,10 @@
 -- No public promise is stated by these definitions: they follow the code step by step.
-use Rattle.std.specs.Prelude.{ℕ, Result, Ok, Err, IfOk, take, ◌<◌, ◌≡◌, Bool, true, false, cond, not, ◌&&◌, List, length, drop, eqb}
+use Rattle.std.specs.Prelude.{ℕ, ℤ, Option, Some, None, Result, Ok, Err, IfOk, take, ◌^◌, ◌<◌, ◌≤◌, ◌≡◌, Bool, true, false, cond, not, ◌&&◌, List, length, drop, eqb}
 use Rattle.protocol.specs.declared.Refusal.{Refusal}
 use Rattle.protocol.specs.declared.Refusal.TheVariants.{BadIdentifier}
 use Rattle.protocol.specs.Refusal.{number_told}
 use Rattle.protocol.specs.Bytes.{bit}
+use Rattle.protocol.specs.Signed.{Number, integer_of}
 use Rattle.protocol.specs.Tree.{Tree, is_live, live_of, property_in}
 use Rattle.tree.specs.Lookup.{places_in}
 use Rattle.buslink.specs.declared.identifier.FrameType.{FrameType}
@@ -12,6 +13,16 @@ use Rattle.buslink.specs.declared.receive.Taken.{Taken}
 use Rattle.buslink.specs.Identifier.{is_station, is_indicator_type, is_for, type_in, last_type}
 use Rattle.buslink.specs.Indicator.{indicator_size, bit_available, bit_error}
 use Rattle.buslink.specs.Receive.{receipt_number}
+use Rattle.buslink.specs.Send.{fits}
+
+-- A number as an integer of 32 bits, if it is one, and a value as an integer of 24 bits, if it is one.
+abbrev pub NumberIs : Number → Option ℤ → Type 0
+NumberIs n (Some z) = z ≡ integer_of n
+NumberIs n None = (n.below ≡ false) × (2 ^ 31 ≤ n.size)
+
+abbrev pub ValueIs : Number → Option ℤ → Type 0
+ValueIs n (Some z) = (fits n ≡ true) × (z ≡ integer_of n)
+ValueIs n None = fits n ≡ false
 
 -- The place of the live property with so many before it, or one behind the last property.
 pub record ProbeAt (t : Tree) (before r : ℕ) : Type 0 where

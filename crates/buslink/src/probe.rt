@@ -1,51 +1,55 @@
 // The probes of a tree, each as the indicator that is sent for it.
-ghost use Rattle.std.specs.Prelude.{◌≡◌, ◌^◌, pos, neg_ℤ, ◌<ℤ◌, ◌≤ℤ◌};
-ghost use Rattle.protocol.specs.Signed.{number_of, integer_of};
+ghost use Rattle.std.specs.Prelude.{◌≡◌};
+ghost use Rattle.protocol.specs.Signed.{number_of};
 ghost use Rattle.tree.specs.Seen.{seen};
 ghost use Rattle.cells.specs.Cells.{cells_in};
 ghost use Rattle.buslink.specs.Send.{scaled, valued, probe_indicator};
-ghost use Rattle.buslink.specs.Steps.{ProbeAt};
+ghost use Rattle.buslink.specs.Steps.{NumberIs, ValueIs, ProbeAt};
 
 use super::indicator::{AVAILABLE, BLANK, ERROR, Indicator, RAW};
 use cells::cell;
 use cells::lent::Lent;
 use tree::{live, range, record};
 
-// The number of a word, signed or not.
-fn number_in(signed: bool, w: u32) -> i64
-    ensures value { result ≡ integer_of (number_of signed w) }
-    ensures low { neg_ℤ (pos (2 ^ 31)) ≤ℤ result }
-    ensures high { result <ℤ pos (2 ^ 32) }
+// The number of a word, signed or not. Without a sign, from 2^31, there is none: it is beyond 24 bits either way.
+fn number_in(signed: bool, w: u32) -> Option<i32>
+    ensures { NumberIs (number_of signed w) result }
 {
-    if signed {
-        return i64::from(word::signed(w));
+    if !signed && 0x8000_0000 <= w {
+        return None;
     }
-    i64::from(w)
+    Some(word::signed(w))
 }
 
-// Its value: ten times the number, but for raw data.
-fn value_in(code: u8, signed: bool, w: u32) -> i64
-    ensures { result ≡ integer_of (scaled code (number_of signed w)) }
+// Its value, if it is one of 24 bits: ten times the number, but for raw data. Ten times 838860 is, with either sign, and ten times
+// more is not.
+fn value_in(code: u8, signed: bool, w: u32) -> Option<i32>
+    ensures { ValueIs (scaled code (number_of signed w)) result }
 {
-    let number = number_in(signed, w);
+    let number = number_in(signed, w)?;
     if code == RAW {
-        return number;
+        return match number {
+            -0x80_0000..=0x7F_FFFF => Some(number),
+            _ => None,
+        };
     }
-    number * 10
+    match number {
+        -838_860..=838_860 => Some(number * 10),
+        _ => None,
+    }
 }
 
 // A word as it is sent. Beyond 24 bits it is 0, with AVAILABLE and ERROR.
 fn of_word(code: u8, signed: bool, w: u32) -> Indicator
     ensures { result ≡ valued code (scaled code (number_of signed w)) }
 {
-    let value = value_in(code, signed, w);
-    match value {
-        -0x80_0000..=0x7F_FFFF => Indicator {
-            value: (value as i32).cast_unsigned(),
+    match value_in(code, signed, w) {
+        Some(value) => Indicator {
+            value: value.cast_unsigned(),
             status: AVAILABLE,
             format: code,
         },
-        _ => Indicator {
+        None => Indicator {
             status: AVAILABLE | ERROR,
             format: code,
             ..BLANK
