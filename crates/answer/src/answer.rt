@@ -126,7 +126,7 @@ impl Exchange<'_> {
     {
         let did = write::outcome_of(self.tree, place, request.value);
         let at = put_request(request, self.out);
-        let len = reply::put_written(did, request.op, self.out, at);
+        let len = reply::put_written(did, u8::from(request.op), self.out, at);
         if let Outcome::Saved = did {
             cell::store_word(self.cells, place, request.value);
             return plain(len);

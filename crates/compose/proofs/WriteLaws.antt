@@ -47,20 +47,17 @@ module _ (r : Request) where
   unfolding allowance
   allow_unknown h = sym (rw (lt-ltb op_write_extended r.op h))
 
-module _ (n : ℕ) (path : List ℕ) (index value : ℕ) (op : Op) (is : n ≡ op_number op) {t : Bool} (same : t ≡ fits (request_of (op_number op) path index value)) where
+module _ (n : ℕ) (path : List ℕ) (index value : ℕ) (op : Op) (is : n ≡ op_number op) {t : Bool} (same : t ≡ fits (request_of n path index value)) where
   known : n ≤ op_write_extended
   known = omega (arith, is, known_op op)
 
-  fitting : fits (request_of n path index value) ≡ t
-  fitting = ap (λ o. fits (request_of o path index value)) is ∙ sym same
-
   pub allow_unfit : t ≡ false → bad_parameter ≡ allowance (request_of n path index value)
   unfolding allowance
-  allow_unfit h = sym (rw (le-ltb op_write_extended n known, fitting ∙ h))
+  allow_unfit h = sym (rw (le-ltb op_write_extended n known, sym same ∙ h))
 
   pub allow_fit : t ≡ true → done ≡ allowance (request_of n path index value)
   unfolding allowance
-  allow_fit h = sym (rw (le-ltb op_write_extended n known, fitting ∙ h))
+  allow_fit h = sym (rw (le-ltb op_write_extended n known, sym same ∙ h))
 
 -- A request written out: with no room, what the table does not allow, and what it allows.
 module _ (least room : ℕ) (form : Request → List ℕ) (r : Request) (old : List ℕ) where

@@ -40,7 +40,7 @@ pub fn put_data(op: u8, path: &[u8], index: PropertyIndex, value: u32, out: &mut
 fn check_request(op: u8, path: &[u8], index: PropertyIndex, value: u32) -> Result<(), Refusal>
     ensures { number_told result ≡ allowance (request_of op path.now index.0 value) }
 {
-    let op = Op::try_from(op)?;
+    Op::try_from(op)?;
     if !table::all_fit(op, path, index, value) {
         return Err(Refusal::BadParameter);
     }

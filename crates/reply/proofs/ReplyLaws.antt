@@ -3,13 +3,6 @@
 use Prim.Native.Nat.{ℕ}
 use mathlib.Core.Path.{◌≡◌}
 use mathlib.Core.List.{List, [], ◌∷◌}
-use mathlib.Core.Bool.{false, true≢false}
-use native.Mathlib.Omega.{arith}
-use denote.Enum.Bare.{sameb}
-use Rattle.protocol.specs.contracts.Op.{the_type}
-use Rattle.protocol.specs.declared.Op.{Op}
-use Rattle.protocol.specs.declared.Op.TheVariants.{Detect, Node, Record, Read, Write, WriteExtended}
-use Rattle.protocol.specs.Refusal.{op_number}
 use borrow.Author.Tests.{ne_eqb}
 use lib.ListN.{length}
 use Rattle.protocol.specs.Numbers.{op_write}
@@ -42,12 +35,3 @@ module _ {at n n' : ℕ} {old mid new : List ℕ} where
       → Put at (fitting at (write_body o op) old) old n' new
   put_reasoned_body o {op} {save} h e p q =
       fit_as (simp (e, ne_eqb op op_write h)) (fits_join (save ∷ []) (text (reason o)) p q)
-
--- An operation that is not 4 has another number.
-pub other_op : (op : Op) → sameb the_type op Write ≡ false → op_number op ≡ op_write → ⊥
-other_op Detect e h = omega (arith, h)
-other_op Node e h = omega (arith, h)
-other_op Record e h = omega (arith, h)
-other_op Read e h = omega (arith, h)
-other_op Write e h = true≢false e
-other_op WriteExtended e h = omega (arith, h)

@@ -8,7 +8,6 @@ ghost use Rattle.std.specs.Prelude.{◌≡◌};
 ghost use Rattle.protocol.specs.Bytes.{text};
 ghost use Rattle.protocol.specs.Buffer.{fitting, Put};
 ghost use Rattle.protocol.specs.Tree.{property_in};
-ghost use Rattle.protocol.specs.Refusal.{op_number};
 ghost use Rattle.protocol.specs.Answer.{reason, node_body, record_body, read_body, write_body};
 ghost use Rattle.tree.specs.Seen.{seen};
 ghost use Rattle.tree.specs.Lookup.{numbers_of};
@@ -78,12 +77,12 @@ fn reason(o: Outcome) -> &'static [u8]
 }
 
 // Ops 4 and 5: the save byte, and for op 5 the text.
-pub fn put_written(o: Outcome, op: Op, out: &mut [u8], at: usize) -> usize
-    ensures { Put at (fitting at (write_body (meaning o) (op_number op)) out.old) out.old result out.new }
+pub fn put_written(o: Outcome, op: u8, out: &mut [u8], at: usize) -> usize
+    ensures { Put at (fitting at (write_body (meaning o) op) out.old) out.old result out.new }
 {
     let save = [write::save_byte(o)];
     let saved = buffer::put_all(&save, out, at);
-    if op == Op::Write {
+    if op == u8::from(Op::Write) {
         return saved;
     }
     buffer::put_all(reason(o), out, saved)

@@ -38,6 +38,10 @@ carry {x = x} e h = subst (λ a. AskedIs a x) (sym e) h
 refusal : (e : Refusal) {a : Asked} → a ≡ declined (refusal_number e) → AskedIs a (Err e)
 refusal e h = carry h (record { is = refl; path = tt })
 
+-- A request is judged by its op's number.
+pub fits_numbered : (path : List ℕ) (i value : ℕ) {t : Bool} {n m : ℕ} → t ≡ fits (request_of n path i value) → n ≡ m → t ≡ fits (request_of m path i value)
+fits_numbered path i value e k = e ∙ ap (λ o. fits (request_of o path i value)) k
+
 -- A request that fits, and one that does not.
 module _ (op : Op) (path : List ℕ) (i value : ℕ) {t : Bool} (same : t ≡ fits (request_of (op_number op) path i value)) where
   pub allowed_fit : t ≡ true → {p : Path} → PathIs path (length path) p → Allowed (request_of (op_number op) (path_in p) i value)

@@ -26,7 +26,7 @@ fn path_of(bytes: &[u8]) -> Path
 fn judge(op: Op, path: &[u8], index: PropertyIndex, value: u32) -> Result<Request, Refusal>
     ensures { AskedIs (asked_if (request_of (op_number op) path.now index.0 value)) result }
 {
-    if !table::all_fit(op, path, index, value) {
+    if !table::all_fit(u8::from(op), path, index, value) {
         return Err(Refusal::BadParameter);
     }
     Ok(Request {

@@ -3,10 +3,9 @@
 
 ghost use Rattle.std.specs.Prelude.{◌≡◌, ◌==◌, not};
 ghost use Rattle.std.specs.List.{list_all};
-ghost use Rattle.protocol.specs.Refusal.{op_number};
 ghost use Rattle.protocol.specs.Request.{request_of, is_path, path_fits, index_fits, value_fits, fits};
 
-use protocol::{MAX_DEPTH, Op, PropertyIndex};
+use protocol::{MAX_DEPTH, OP_NODE, OP_READ, Op, PropertyIndex};
 
 // Whether bytes are nonzero, all of them.
 fn all_nonzero(bs: &[u8]) -> bool
@@ -23,37 +22,34 @@ fn is_path(path: &[u8]) -> bool
 }
 
 // Each part of a request: by its rule where the op asks for it, and else empty or 0.
-fn path_fits(op: Op, path: &[u8]) -> bool
-    ensures { result ≡ path_fits (op_number op) path.now }
+fn path_fits(op: u8, path: &[u8]) -> bool
+    ensures { result ≡ path_fits op path.now }
 {
-    match op {
-        Op::Detect => path.is_empty(),
-        _ => is_path(path),
+    if u8::from(Op::Detect) < op {
+        return is_path(path);
     }
+    path.is_empty()
 }
 
-fn index_fits(op: Op, index: PropertyIndex) -> bool
-    ensures { result ≡ index_fits (op_number op) index.0 }
+fn index_fits(op: u8, index: PropertyIndex) -> bool
+    ensures { result ≡ index_fits op index.0 }
 {
-    match op {
-        Op::Detect | Op::Node => index.0 == 0,
-        _ => 0 < index.0,
+    if OP_NODE < op {
+        return 0 < index.0;
     }
+    index.0 == 0
 }
 
-fn value_fits(op: Op, value: u32) -> bool
-    ensures { result ≡ value_fits (op_number op) value }
+fn value_fits(op: u8, value: u32) -> bool
+    ensures { result ≡ value_fits op value }
 {
-    match op {
-        Op::Write | Op::WriteExtended => true,
-        _ => value == 0,
-    }
+    OP_READ < op || value == 0
 }
 
 // Whether a request has what its op asks for, and no more.
 #[tactic(auto, unfolding(protocol::specs::Request::fits))]
-pub fn all_fit(op: Op, path: &[u8], index: PropertyIndex, value: u32) -> bool
-    ensures { result ≡ fits (request_of (op_number op) path.now index.0 value) }
+pub fn all_fit(op: u8, path: &[u8], index: PropertyIndex, value: u32) -> bool
+    ensures { result ≡ fits (request_of op path.now index.0 value) }
 {
     path_fits(op, path) && index_fits(op, index) && value_fits(op, value)
 }

@@ -1,8 +1,9 @@
 -- `answer::answer::Exchange::on_write` meets its contract. Assumes nothing.
 use Rattle.std.proofs.Common.{◌≡◌, ℕ, List, refl, sym, ap, ◌∙◌, arith}
 use Rattle.protocol.specs.Tree.{property_in}
-use Rattle.protocol.specs.Answer.{Outcome, outcome, write_number, action_of, cells_after, on_write}
+use Rattle.protocol.specs.Answer.{Outcome, outcome, write_body, write_number, action_of, cells_after, on_write}
 use Rattle.protocol.proofs.AnswerLaws.{write_size}
+use Rattle.protocol.proofs.BufferLaws.{fit_as}
 use Rattle.protocol.proofs.RequestLaws.{fitting, value-fits}
 use Rattle.tree.specs.Seen.{seen}
 use Rattle.cells.specs.Cells.{cells_form, cells_in}
@@ -34,7 +35,7 @@ wrote c is number action missing cells =
     (put_write_reply asked c.put_request-at.ensures o
     (omega (arith, self.roomy, (write_size asked (path_short asked c.args.request.now.allowed) o).most))
     c.requires.op
-    c.put_written-len.ensures)
+    (fit_as (ap (write_body o) c.from.ensures) c.put_written-len.ensures))
     number refl action missing cells
 
 pub invariant_of-self-in-Saved-clause-lent : goal.invariant_of-self-in-Saved-clause-lent
