@@ -8,7 +8,8 @@ use protocol::MAX_CONTENT;
 // The length of a stream state (docs/FORMATS.md).
 pub const STATE_LEN: usize = 261;
 
-// Whether a reader is inside a frame, and whether a 10h waits for the other byte of its pair.
+// Whether a reader is inside a frame, and whether a 10h waits for the other byte of its pair. The numbers are those of a state's first
+// byte (docs/FORMATS.md).
 #[derive(Clone, Copy)]
 pub(crate) enum Phase {
     Outside = 0,
