@@ -13,6 +13,9 @@
 // format; in 75 those of one.
 #![tactic(auto)]
 
+ghost use Rattle.std.specs.Prelude.{◌≡◌, IfSome, IfNone};
+ghost use Rattle.protocol.specs.Numbers.{done};
+ghost use Rattle.protocol.specs.Refusal.{refusal_number};
 ghost use Rattle.protocol.specs.Bytes.{word};
 ghost use Rattle.protocol.specs.Buffer.{Put, fitting};
 
@@ -39,11 +42,16 @@ pub struct Answer {
 
 impl Answer {
     // Of a call that was refused or not.
-    pub fn of(refusal: Option<Refusal>, len: usize) -> Answer {
-        Answer {
-            number: refusal.map_or(DONE, u8::from),
-            len,
-        }
+    pub fn of(refusal: Option<Refusal>, len: usize) -> Answer
+        ensures refused { IfSome refusal (λ r. result.number ≡ refusal_number r) }
+        ensures done { IfNone refusal (result.number ≡ done) }
+        ensures len { result.len ≡ len }
+    {
+        let number = match refusal {
+            Some(refusal) => u8::from(refusal),
+            None => DONE,
+        };
+        Answer { number, len }
     }
 }
 

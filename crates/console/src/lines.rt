@@ -18,7 +18,7 @@ fn put_both(number: u8, reply: &[u8], output: &mut Output)
 pub(crate) fn put_lines(number: u8, reply: &[u8], out: &mut [u8]) -> usize
     ensures { Laid 0 (lines number reply.now) out.old result out.new }
 {
-    let mut output = Output { bytes: out, at: 0 };
+    let mut output = Output::new(out, 0);
     put_both(number, reply, &mut output);
     output.at
 }

@@ -14,7 +14,7 @@ pub const INPUT_ROOM: usize = 27331;
 fn put_answer(number: u8, out: &mut [u8]) -> usize
     ensures { Laid 0 (line answer_key (decimal number)) out.old result out.new }
 {
-    let mut output = Output { bytes: out, at: 0 };
+    let mut output = Output::new(out, 0);
     output.put_line(b"answer", u32::from(number));
     output.at
 }

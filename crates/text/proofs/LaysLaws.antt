@@ -1,9 +1,10 @@
 -- Texts put into an output one behind the other.
 -- Assumes nothing.
-use Prim.Native.Nat.{ℕ}
+use Prim.Native.Nat.{ℕ, min}
 use native.Mathlib.Omega.{arith}
 use mathlib.Core.Path.{◌≡◌, refl, subst, ◌∙◌}
 use mathlib.Core.List.{List, [], ◌++◌}
+use Rattle.protocol.specs.Buffer.{farthest, Laid}
 use Rattle.protocol.proofs.LayLaws.{laid_nil, laid_join}
 use Rattle.text.specs.declared.output.Output.{Output}
 use Rattle.text.specs.Lays.{Lays}
@@ -34,3 +35,7 @@ module _ {whole : List ℕ} {start now : Output} where
 
   pub going_more : {ys rest : List ℕ} {next : Output} → Going whole start (ys ++ rest) now → Lays ys now next → Going whole start rest next
   going_more g p = record { on = λ end q. g.on end (lays_join p q) }
+
+-- An output takes any place of a buffer: what is laid in one that was made for a place is laid from that place on.
+pub lays_from : (at : ℕ) {ys : List ℕ} {a b : Output} → a.at ≡ min farthest at → Lays ys a b → Laid at ys a.bytes.now b.at b.bytes.now
+lays_from at {a = a} e p = laid_join a.short (laid_nil {at = at} a.bytes.now (omega (arith, e))) p.laid

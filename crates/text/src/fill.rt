@@ -11,7 +11,7 @@ use super::unwritten::Unwritten;
 fn put_front<V: Value>(value: V, out: &mut [u8]) -> usize
     ensures { Laid 0 (V.shown value) out.old result out.new }
 {
-    let mut output = Output { bytes: out, at: 0 };
+    let mut output = Output::new(out, 0);
     value.put(&mut output);
     output.at
 }

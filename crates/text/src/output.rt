@@ -17,7 +17,17 @@ pub struct Output<'a> {
 }
 
 impl<'a> Output<'a> {
+    ghost use Rattle.std.specs.Prelude.{◌≡◌, min};
     ghost use Rattle.text.specs.Lays.{Lays};
+
+    // From any place of a buffer on. A place beyond all is taken for the last.
+    pub fn new(bytes: &'a mut [u8], at: usize) -> Output<'a>
+        ensures place { result.at ≡ min farthest at }
+        ensures bytes { result.bytes.now ≡ bytes.old }
+        ensures same { result.bytes.ghost_name ≡ bytes.entry.ghost_name }
+    {
+        Output { bytes, at: FARTHEST.min(at) }
+    }
 
     // Bytes as they are.
     pub fn put_all(&mut self, bs: &[u8])

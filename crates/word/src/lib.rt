@@ -32,10 +32,10 @@ pub fn half_bytes_of(n: u16) -> [u8; 2]
 
 // The bytes of a number of 32 bits.
 #[tactic(auto, unfolding(protocol::specs::Bytes::word))]
-pub fn bytes_of(n: u32) -> [u8; 4]
-    ensures { result ≡ word n }
+pub fn bytes_of(w: u32) -> [u8; 4]
+    ensures { result ≡ word w }
 {
-    n.to_be_bytes()
+    w.to_be_bytes()
 }
 
 // A word as a signed integer.
