@@ -1,9 +1,9 @@
 -- An indicator's four bytes, put together and taken apart.
 -- Assumes nothing.
-use Prim.Native.Nat.{ℕ, zero, suc, ◌+◌, ◌*◌, ◌/◌, ◌%◌, ◌^◌, ◌<◌, ◌≤◌}
+use Prim.Native.Nat.{ℕ, ◌+◌, ◌*◌, ◌/◌, ◌%◌, ◌^◌, ◌<◌, ◌≤◌}
 use native.Mathlib.Omega.{arith}
 use native.Mathlib.Nat.{div-div-eq-div-mul}
-use mathlib.Core.Path.{◌≡◌, refl, sym, ap, ap₂, ◌∙◌}
+use mathlib.Core.Path.{◌≡◌, sym, ap, ap₂, ◌∙◌}
 use mathlib.Core.Bool.{not, ◌&&◌}
 use mathlib.Core.List.{List, [], ◌∷◌, ◌++◌}
 use borrow.Author.Tests.{lt-ltb, le-ltb}
@@ -45,19 +45,6 @@ pub put_together : (i : Indicator) {a b c : ℕ} → a ≡ i.value % 2 ^ 8 → b
     → i.status % 2 ^ 3 ≡ 0 → i.format < 2 ^ 3 → a ∷ b ∷ c ∷ bit_or i.status i.format ∷ [] ≡ bytes_of i
 unfolding bytes_of
 put_together i e f g s h = rw (e, f, g, fourth i.status i.format s h)
-
--- Usable, by the two upper bits of the fourth byte.
-two_bits : (q : ℕ) → q < 4 → eqb q 2 ≡ (eqb (q / 2 % 2) 1 && not (eqb (q % 2) 1))
-two_bits zero h = refl
-two_bits (suc zero) h = refl
-two_bits (suc (suc zero)) h = refl
-two_bits (suc (suc (suc zero))) h = refl
-two_bits (suc (suc (suc (suc q)))) h = absurd (omega (arith, h))
-
-pub by_two_bits : (d : ℕ) → d < 2 ^ 8 → eqb (d / 2 ^ 6) 2 ≡ usable_byte d
-by_two_bits d h =
-    two_bits (d / 2 ^ 6) (omega (arith, h))
-    ∙ ap (λ n. eqb (n % 2) 1 && not (eqb (d / 2 ^ 6 % 2) 1)) (div-div-eq-div-mul d (2 ^ 6) 2)
 
 pub usable_fourth : (bs : List ℕ) → is_usable (indicator_in bs) ≡ usable_byte (get_or bs 3 0)
 unfolding is_usable indicator_in

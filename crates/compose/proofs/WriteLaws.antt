@@ -37,10 +37,6 @@ module _ (op : ℕ) (path : List ℕ) (index value : ℕ) where
   unfolding data_of
   data-value h = sym (rw (lt-ltb op_node op (omega (arith, h)), lt-ltb op_read op h))
 
-pub length-word : (n : ℕ) → length (word n) ≡ 4
-unfolding word
-length-word n = refl
-
 -- What writing answers for a request, test by test.
 module _ (r : Request) where
   pub allow_unknown : op_write_extended < r.op → unknown_command ≡ allowance r

@@ -1,5 +1,5 @@
 -- 01, Frames on the wire: frames and datagrams, as written and as read. 003, sections 2 and 3, has the same frames.
-use Rattle.std.specs.Prelude.{ℕ, ◌+◌, ◌-◌, ◌%◌, ◌^◌, ◌≤◌, Bool, true, false, cond, ◌&&◌, List, [], ◌∷◌, ◌++◌, length, get_or, take, drop, eqb, ltb, leb}
+use Rattle.std.specs.Prelude.{ℕ, ◌-◌, ◌%◌, ◌^◌, ◌≤◌, Bool, true, false, cond, ◌&&◌, List, [], ◌∷◌, ◌++◌, length, get_or, take, drop, eqb, ltb, leb}
 use Rattle.std.proofs.Math.Option.{Option, none, some}
 use Rattle.protocol.specs.Numbers.{done, no_preamble, bad_pair, too_short, too_long, bad_checksum, other_address, no_room, STX, ETX, DLE, max_data, max_content}
 use Rattle.protocol.specs.Bytes.{sum, every}

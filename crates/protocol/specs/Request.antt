@@ -1,5 +1,5 @@
 -- 01, Requests and replies: what a request is, how it is written, and how data is read as one.
-use Rattle.std.specs.Prelude.{ℕ, suc, ◌-◌, Bool, true, cond, ◌&&◌, List, [], ◌∷◌, ◌++◌, ◌≡◌, length, get_or, take, drop, eqb, ltb, leb}
+use Rattle.std.specs.Prelude.{ℕ, suc, ◌-◌, Bool, cond, ◌&&◌, List, [], ◌∷◌, ◌++◌, ◌≡◌, length, get_or, take, drop, eqb, ltb, leb}
 use Rattle.protocol.specs.Numbers.{done, unknown_command, bad_parameter, PDI, op_detect, op_node, op_read, op_write_extended, max_depth, byte_end, word_end}
 use Rattle.protocol.specs.Bytes.{every, word, number}
 use Rattle.protocol.specs.Frame.{Received, frame, datagram, read_frame, read_datagram}

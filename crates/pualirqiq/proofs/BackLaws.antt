@@ -3,19 +3,16 @@
 use Prim.Native.Nat.{ℕ, ◌-◌, ◌<◌, ◌≤◌}
 use native.Mathlib.Omega.{arith}
 use mathlib.Core.Path.{◌≡◌, sym, ap, ◌∙◌}
-use mathlib.Core.Bool.{Bool, true, false, cond}
+use mathlib.Core.Bool.{Bool, true, cond}
 use mathlib.Core.List.{List, []}
 use mathlib.Core.Option.{Option, none, some}
 use borrow.Author.Tests.{eq-eqb, ne_eqb, lt-ltb, le-ltb}
 use lib.ListN.{length, take, drop, replicate, length-append, length-drop, length-replicate}
 use lib.Seq.{take_all, length-take-le}
-use lib.Dec.{eqb}
-use lib.IntN.{ℤ}
 use Rattle.protocol.specs.Numbers.{done, unsound, max_depth}
 use Rattle.protocol.specs.Frame.{read_datagram}
 use Rattle.protocol.specs.Buffer.{over}
 use Rattle.protocol.specs.Request.{Asked}
-use Rattle.protocol.specs.Signed.{number_of, integer_of}
 use Rattle.protocol.specs.Tree.{property_in, cell_in, reading}
 use Rattle.protocol.proofs.FrameLaws.{read_datagram-refused}
 use Rattle.datagram.proofs.UdpLaws.{data-from-4}
@@ -26,13 +23,12 @@ use Rattle.protocol.specs.Refusal.{refusal_number, number_told, option_of, op_nu
 use Rattle.protocol.proofs.RefusalLaws.{refusal_some}
 use Rattle.request.specs.declared.Request.{Request}
 use Rattle.request.specs.Asked.{padded, AskedIs}
-use Rattle.buslink.specs.Receive.{Told}
 use Rattle.tree.specs.Seen.{seen}
 use Rattle.soundness.specs.Sound.{is_tree}
 use Rattle.cells.specs.Cells.{cells_in}
 use Rattle.cells.specs.Lent.{is_lent, lent_number, Read, read_in, or_else, Reads}
 use Rattle.cells.proofs.CellLaws.{lent_refused, refused_unsound}
-use Rattle.pualirqiq.specs.Calls.{tree_number, value_told, ReadIs, Handed, handed, fields_of, HandsBack, Locates, Tells}
+use Rattle.pualirqiq.specs.Calls.{tree_number, value_told, ReadIs, Handed, handed, fields_of, HandsBack, Locates}
 
 -- A tree alone.
 pub tree_number_lem : (tree : List ℕ) (t : Bool) → is_tree tree ≡ t → cond t done unsound ≡ tree_number tree
@@ -118,30 +114,3 @@ module _ (tree cells : List ℕ) (place : ℕ) where
 pub reads_as : (what : Read) (old : ℕ) (r : Result ℕ Refusal) → ReadIs what r → Reads what old (number_told r) (value_told old r)
 reads_as what old (Ok n) h = record { number = ap (λ w. w.number) (sym h); word_is = ap (λ w. or_else old w.word) (sym h) }
 reads_as what old (Err e) h = record { number = ap (λ w. w.number) (sym h); word_is = ap (λ w. or_else old w.word) (sym h) }
-
--- What a table tells of an indicator.
-module _ {what told : Told} (e : told ≡ what) {value : ℤ} {status format : ℕ} where
-  pub tells_none : (told.number ≡ done → ⊥) → Tells what value status format told.number value status format
-  tells_none h =
-      let test : eqb what.number done ≡ false = ne_eqb what.number done (λ z. h (ap (λ t. t.number) e ∙ z)) in
-      record {
-        number = ap (λ t. t.number) e;
-        value_is = sym (ap (λ b. cond b (integer_of (number_of true what.indicator.value)) value) test);
-        status_is = sym (ap (λ b. cond b what.indicator.status status) test);
-        format_is = sym (ap (λ b. cond b what.indicator.format format) test);
-      }
-
-  pub tells_record : {n : ℤ} → told.number ≡ done → n ≡ integer_of (number_of true told.indicator.value)
-      → Tells what value status format done n told.indicator.status told.indicator.format
-  tells_record h f =
-      let is : what.number ≡ done = ap (λ t. t.number) (sym e) ∙ h in
-      let test : eqb what.number done ≡ true = eq-eqb what.number done is in
-      record {
-        number = sym is;
-        value_is =
-            f
-            ∙ ap (λ t. integer_of (number_of true t.indicator.value)) e
-            ∙ sym (ap (λ b. cond b (integer_of (number_of true what.indicator.value)) value) test);
-        status_is = ap (λ t. t.indicator.status) e ∙ sym (ap (λ b. cond b what.indicator.status status) test);
-        format_is = ap (λ t. t.indicator.format) e ∙ sym (ap (λ b. cond b what.indicator.format format) test);
-      }

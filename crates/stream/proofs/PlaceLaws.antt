@@ -4,12 +4,11 @@ use Prim.Native.Nat.{ℕ, ◌<◌, ◌≤◌}
 use native.Mathlib.Omega.{arith}
 use mathlib.Core.Path.{◌≡◌, refl, sym, ap, subst, ◌∙◌}
 use mathlib.Core.Bool.{Bool, true, false, ◌&&◌, ◌||◌}
-use mathlib.Core.List.{List, [], ◌∷◌, ◌++◌}
+use mathlib.Core.List.{List}
 use borrow.Author.Tests.{eq-eqb, ne_eqb, le-leb, lt-leb}
-use lib.ListN.{length, drop, set}
+use lib.ListN.{length}
 use lib.Dec.{eqb, leb}
 use Rattle.protocol.specs.Numbers.{max_content}
-use Rattle.protocol.specs.Bytes.{half}
 use Rattle.stream.specs.declared.state.Phase.{Phase}
 use Rattle.stream.specs.declared.state.Phase.TheVariants.{Outside, OutsideWaiting, Inside, InsideWaiting}
 use Rattle.stream.specs.State.{state_length, phase_in, length_in, has_form}
@@ -79,11 +78,3 @@ module _ (st : List ℕ) where
         go OutsideWaiting by h = by true (le-leb len max_content (omega (arith, h))) ∙ eq-eqb len 0 (omega (arith, h))
         go Inside by h = by true (le-leb len max_content h)
         go InsideWaiting by h = by true (le-leb len max_content h)
-
--- Three stores are the first three bytes of a form.
-pub place_put : (st : List ℕ) (phase len high low : ℕ) → 3 ≤ length st → high ∷ low ∷ [] ≡ half len
-    → set (set (set st 0 phase) 1 high) 2 low ≡ phase ∷ (half len ++ drop 3 st)
-place_put [] phase len high low h e = absurd (omega (arith, h))
-place_put (a ∷ []) phase len high low h e = absurd (omega (arith, h))
-place_put (a ∷ b ∷ []) phase len high low h e = absurd (omega (arith, h))
-place_put (a ∷ b ∷ c ∷ st) phase len high low h e = ap (λ l. phase ∷ (l ++ st)) e
