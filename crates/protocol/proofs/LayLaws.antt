@@ -4,7 +4,7 @@ use Prim.Native.Nat.{ℕ, suc, ◌+◌, ◌-◌, ◌<◌, ◌≤◌, min}
 use native.Mathlib.Omega.{arith}
 use native.Mathlib.Nat.{add-zero, add-suc, suc-add}
 use native.Mathlib.Decide.{dec_le}
-use mathlib.Core.Path.{◌≡◌, refl, sym, ap, ap₂, ◌∙◌}
+use mathlib.Core.Path.{◌≡◌, refl, sym, ap, ap₂, subst, ◌∙◌}
 use mathlib.Core.List.{List, [], ◌∷◌, ◌++◌, append_assoc}
 use lib.ListN.{length, take, drop, set, length-append, length-take, take-append-drop, drop_of_length-le}
 use lib.Seq.{sets-eq, set_out, length-sets}
@@ -46,6 +46,10 @@ laid_same {at} {ys = ys} {old = old} p = ap length p.bytes ∙ length-lay at ys 
 pub laid_nil : {at r : ℕ} (old : List ℕ) → r ≡ min farthest (at + 0) → Laid at [] old r old
 unfolding lay
 laid_nil old e = record { next = e; bytes = refl }
+
+-- What was laid, for what it is.
+pub laid_as : {at r : ℕ} {ys zs old new : List ℕ} → ys ≡ zs → Laid at ys old r new → Laid at zs old r new
+laid_as {at} {r} {old = old} {new = new} e p = subst (λ l. Laid at l old r new) e p
 
 -- A helper's bytes behind those of another.
 pub laid_join : {at r r' : ℕ} {ys zs old mid new : List ℕ} → length old < farthest → Laid at ys old r mid → Laid r zs mid r' new
@@ -106,3 +110,29 @@ pub laid_front : {r : ℕ} {ys old new : List ℕ} → length ys ≤ length old 
     → (r ≡ length ys) × (new ≡ over ys old)
 laid_front {ys = ys} {old = old} h k p =
     (omega (arith, p.next, h, k), p.bytes ∙ lay-fits 0 ys old (omega (arith, h)) ∙ over_put ys old)
+
+-- Bytes laid so far: with what is left they are the whole.
+pub record Laying (whole old : List ℕ) (at : ℕ) (rest out : List ℕ) (next : ℕ) : Type 0 where
+  pub place : next ≤ farthest
+  pub same : length out ≡ length old
+  pub on : (r : ℕ) (new : List ℕ) → Laid next rest out r new → Laid at whole old r new
+
+pub lay-begins : {at : ℕ} (whole old : List ℕ) → at ≤ farthest → Laying whole old at whole old at
+lay-begins whole old h = record { place = h; same = refl; on = λ r new l. l }
+
+pub lay-ends : {at next : ℕ} {whole old out : List ℕ} → Laying whole old at [] out next → Laid at whole old next out
+lay-ends {next = next} {out = out} g = g.on next out (laid_nil out (omega (arith, g.place)))
+
+module _ {whole old : List ℕ} {at : ℕ} {out : List ℕ} {next : ℕ} where
+  -- What is left, for what it is.
+  pub lay_as : {rest rest' : List ℕ} → rest ≡ rest' → Laying whole old at rest out next → Laying whole old at rest' out next
+  lay_as e g = subst (λ l. Laying whole old at l out next) e g
+
+  pub lay_more : {ys rest mid : List ℕ} {r : ℕ} → length old < farthest → Laying whole old at (ys ++ rest) out next → Laid next ys out r mid
+      → Laying whole old at rest mid r
+  lay_more h g p =
+      record {
+        place = omega (arith, p.next);
+        same = laid_same p ∙ g.same;
+        on = λ r new l. g.on r new (laid_join (omega (arith, h, g.same)) p l);
+      }

@@ -4,7 +4,7 @@ use Prim.Native.Nat.{ℕ, zero, suc, ◌+◌, ◌-◌, ◌<◌, ◌≤◌, min}
 use native.Mathlib.Omega.{arith}
 use native.Mathlib.Nat.{not-suc-le-zero, zero-min, suc-min-suc, add-zero, sub-zero}
 use native.Mathlib.Numerals.{add-one}
-use mathlib.Core.Path.{◌≡◌, refl, sym, ap, ap₂, ◌∙◌}
+use mathlib.Core.Path.{◌≡◌, refl, sym, ap, ap₂, subst, ◌∙◌}
 use mathlib.Core.Bool.{Bool, true, false, cond}
 use mathlib.Core.List.{List, [], ◌∷◌}
 use borrow.Author.Tests.{ne_eqb}
@@ -77,6 +77,45 @@ characters_stop (b ∷ bs) h = go (is_character b) refl (characters_stop bs) h
         → cond u (suc (characters_in bs)) 0 < length (b ∷ bs) → is_character (get_or (b ∷ bs) (cond u (suc (characters_in bs)) 0) 0) ≡ false
     go true e again h = again (omega (arith, h))
     go false e again h = e
+
+-- A walk over characters, from a place towards an end.
+pub record Passing (bs : List ℕ) (from end at : ℕ) : Type 0 where
+  pub past : from ≤ at
+  pub within : at ≤ end
+  pub last : end ≤ length bs
+  pub whole : from + characters_in (take (end - from) (drop from bs)) ≡ at + characters_in (take (end - at) (drop at bs))
+
+pub pass_begins : (bs : List ℕ) (from end : ℕ) → from ≤ end → end ≤ length bs → Passing bs from end from
+pass_begins bs from end h k = record { past = omega arith; within = h; last = k; whole = refl }
+
+module _ {bs : List ℕ} {from end at : ℕ} (p : Passing bs from end at) where
+  pub pass_out : end ≤ at → at ≡ from + characters_in (take (end - from) (drop from bs))
+  unfolding characters_in
+  pass_out h =
+      let n : end - at ≡ 0 = omega arith in
+      sym (p.whole ∙ ap (λ m. at + characters_in (take m (drop at bs))) n ∙ add-zero at)
+
+  module _ (h : at < end) where
+    abbrev behind : ℕ
+    behind = characters_in (take (end - (at + 1)) (drop (at + 1) bs))
+
+    counted : {u : Bool} → is_character (get_or bs at 0) ≡ u
+        → from + characters_in (take (end - from) (drop from bs)) ≡ at + cond u (suc behind) 0
+    unfolding characters_in
+    counted e =
+        p.whole ∙ ap (λ l. at + characters_in l) (first_here bs at end h p.last) ∙ ap (λ u. at + cond u (suc behind) 0) e
+
+    pub pass_on : is_character (get_or bs at 0) ≡ true → Passing bs from end (at + 1)
+    pass_on e = record { past = omega arith; within = omega arith; last = p.last; whole = omega (arith, counted e) }
+
+    pub pass_stop : is_character (get_or bs at 0) ≡ false → at ≡ from + characters_in (take (end - from) (drop from bs))
+    pass_stop e = omega (arith, counted e)
+
+pub pass_two : {bs : List ℕ} {from end : ℕ} (at : ℕ) → Passing bs from end (at + 1) → at + 1 < end → is_character (get_or bs (at + 1) 0) ≡ true
+    → Passing bs from end (at + 2)
+pass_two {bs} {from} {end} at p h e =
+    let n : at + 1 + 1 ≡ at + 2 = omega arith in
+    subst (λ m. Passing bs from end m) n (pass_on p h e)
 
 -- The count of characters is where the first other byte stands.
 first_other : (bs : List ℕ) → characters_in bs ≡ position_or_len (λ b. not (is_character b)) bs

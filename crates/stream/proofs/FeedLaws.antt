@@ -135,10 +135,15 @@ opens_moved b = go (eqb b STX) refl
     go true e = on_moved (outside true) (inside false []) b (place Inside 0) (rw e) refl refl refl
     go false e = waits_moved true b (rw e)
 
-moved : (s : Stream) (b : ℕ) → Moved s b (move_of (phase_at s) (length (content_in s)) b)
+outside_moved : (w : Bool) (b : ℕ) → Moved (outside w) b (move_of (phase_at (outside w)) 0 b)
 unfolding move_of step
-moved (outside false) b = waits_moved false b refl
-moved (outside true) b = opens_moved b
+outside_moved false b = waits_moved false b refl
+outside_moved true b = opens_moved b
+
+moved : (s : Stream) (b : ℕ) → Moved s b (move_of (phase_at s) (length (content_in s)) b)
+unfolding move_of
+moved (outside false) b = outside_moved false b
+moved (outside true) b = outside_moved true b
 moved (inside false c) b = lone_moved c b
 moved (inside true c) b = paired_moved c b
 
