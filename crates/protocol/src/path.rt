@@ -21,13 +21,15 @@ impl Path {
         Path { numbers, len: 1 }
     }
 
-    // The path of the child with a number.
+    // The path of the child with a number. A path of 16 numbers has none, and stays.
     pub fn child(self, number: u8) -> Path
-        requires { self.len < 16 }
-        ensures { PathIs (path_in self ++ number ∷ []) (self.len + 1) result }
+        ensures { self.len < 16 → PathIs (path_in self ++ number ∷ []) (self.len + 1) result }
     {
         let mut numbers = self.numbers;
         let len = self.len;
+        if numbers.len() <= len {
+            return self;
+        }
         numbers[len] = number;
         Path {
             numbers,

@@ -17,10 +17,9 @@ fn put_front<V: Value>(value: V, out: &mut [u8]) -> usize
 }
 
 // A text of at most so many bytes, put at the front: 8 where the room is shorter than the text, with the length that is needed.
-// The length is counted first, where the room may be too short.
+// The length is counted first, where the room may be too short. Of a longer text nothing is promised but that the call ends.
 pub fn fill<V: Value + Copy>(value: V, most: usize, out: &mut [u8]) -> Result<usize, Unwritten>
-    requires { (length (V.shown value) ≤ most) × (most < farthest) }
-    ensures { Fills (whole (V.shown value)) out.old (number_written result) (length_written result) out.new }
+    ensures { (length (V.shown value) ≤ most) × (most < farthest) → Fills (whole (V.shown value)) out.old (number_written result) (length_written result) out.new }
 {
     if out.len() < most {
         let size = put_front(value, &mut out[..0]);

@@ -11,10 +11,7 @@ returns-in_err-tree c =
     rw (p.1, p.2)
     (lists_refused c.args.tree.now c.args.out.now c.in_err-tree.ensures.number (refusal_some c.in_err-tree.field-0.0))
 
-pub fill-requires : goal.fill-requires
-fill-requires c = (longest c.in_ok-tree.tree.bytes.now c.in_ok-tree.tree.sound, omega arith)
-
 pub returns : goal.returns
 returns c =
     lists_text c.args.tree.now c.args.out.now (lists_sound c.args.tree.now c.args.out.now c.in_ok-tree.ensures.number)
-    c.in_ok-tree.ensures.same c.fill.ensures
+    c.in_ok-tree.ensures.same (c.fill.ensures (longest c.in_ok-tree.tree.bytes.now c.in_ok-tree.tree.sound, omega arith))

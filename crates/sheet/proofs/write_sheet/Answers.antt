@@ -12,12 +12,8 @@ returns-in_err-sheet c =
     rw (p.1, p.2)
     (not_filled c.args.tree.now c.args.cells.now c.args.out.now c.in_err-sheet.ensures.number (refusal_some c.in_err-sheet.field-0.0))
 
-pub fill-requires : goal.fill-requires
-fill-requires c =
-    let e = sheet_same c.args.tree.now c.args.cells.now c.in_ok-sheet.sheet c.in_ok-sheet.ensures.sheet in
-    (rw e (longest c.args.tree.now c.args.cells.now (λ i. (c.type_inv.cells i).fits) (sym c.in_ok-sheet.ensures.number)), omega arith)
-
 pub returns : goal.returns
 returns c =
     let e = sheet_same c.args.tree.now c.args.cells.now c.in_ok-sheet.sheet c.in_ok-sheet.ensures.sheet in
-    filled_in c.args.tree.now c.args.cells.now (sym c.in_ok-sheet.ensures.number) (rw e at c.fill.ensures)
+    filled_in c.args.tree.now c.args.cells.now (sym c.in_ok-sheet.ensures.number) (rw e at c.fill.ensures
+    (rw e (longest c.args.tree.now c.args.cells.now (λ i. (c.type_inv.cells i).fits) (sym c.in_ok-sheet.ensures.number)), omega arith))

@@ -36,28 +36,25 @@ pub walk_children-overflow_add-number : goal.walk_children-overflow_add-number
 walk_children-overflow_add-number t c =
     omega (arith, c.loop-j.invariant.behind, few_nodes c.args.tree.bytes.now c.args.tree.sound, c.loop-j-test.true, c.node_count-j-end.ensures)
 
-pub walk_children-child-requires : goal.walk_children-child-requires
-walk_children-child-requires t c =
-    let bytes = c.args.tree.bytes.now in
-    let listed : c.loop-j.j < length (seen bytes).nodes = omega (arith, c.loop-j-test.true, c.node_count-j-end.ensures) in
-    child_room c.args.tree.sound c.requires (omega (arith, c.loop-j.invariant.behind)) listed (c.from.ensures ∙ row_parent bytes listed)
-    c.if-from-k.false
-
 pub walk_children-walk_node-requires : goal.walk_children-walk_node-requires
 walk_children-walk_node-requires t c =
     let bytes = c.args.tree.bytes.now in
-    let listed : c.loop-j.j < length (seen bytes).nodes = omega (arith, c.loop-j-test.true, c.node_count-j-end.ensures) in (
+    let listed : c.loop-j.j < length (seen bytes).nodes = omega (arith, c.loop-j-test.true, c.node_count-j-end.ensures) in
+    let room : c.args.path.len < 16 =
+    child_room c.args.tree.sound c.requires (omega (arith, c.loop-j.invariant.behind)) listed (c.from.ensures ∙ row_parent bytes listed) c.if-from-k.false in (
       omega (arith, c.decreases, c.loop-j.invariant.behind, listed),
       stands_child c.args.tree.sound c.requires (omega (arith, c.loop-j.invariant.behind)) listed
-          (c.from.ensures ∙ row_parent bytes listed) c.if-from-k.false c.child.ensures.len,
+          (c.from.ensures ∙ row_parent bytes listed) c.if-from-k.false (c.child.ensures room).len,
     )
 
 pub walk_children-loop-j-preserved : goal.walk_children-loop-j-preserved
 walk_children-loop-j-preserved t c =
     let bytes = c.args.tree.bytes.now in
     let listed : c.loop-j.j < length (seen bytes).nodes = omega (arith, c.loop-j-test.true, c.node_count-j-end.ensures) in
+    let room : c.args.path.len < 16 =
+    child_room c.args.tree.sound c.requires (omega (arith, c.loop-j.invariant.behind)) listed (c.from.ensures ∙ row_parent bytes listed) c.if-from-k.false in
     descend_here bytes (path_in c.args.path) c.loop-j.invariant listed (c.from.ensures ∙ row_parent bytes listed) c.if-from-k.false
-    c.child.ensures.is c.walk_node.ensures
+    (c.child.ensures room).is c.walk_node.ensures
 
 pub walk_children-returns : goal.walk_children-returns
 walk_children-returns t c =

@@ -11,18 +11,18 @@ use Rattle.text.proofs.fill.fill.Goals as goal
 use Rattle.text.proofs.fill.fill.Goals.{then-out-most+else-out-size, else-out-most}
 
 pub returns-then-out-size : goal.returns-then-out-size
-returns-then-out-size g c =
-    fills_short (whole (g.V.Value.shown c.args.value)) c.args.out.now refl (omega (arith, c.well_formed)) (omega (arith, c.requires.0, c.requires.1))
+returns-then-out-size g c asked =
+    fills_short (whole (g.V.Value.shown c.args.value)) c.args.out.now refl (omega (arith, c.well_formed)) (omega (arith, asked.0, asked.1))
     c.put_front-size.ensures c.if-out-size.true
 
 pub returns : goal.returns
-returns g c =
+returns g c asked =
     let text : List ℕ = g.V.Value.shown c.args.value in
     let short : length c.args.out.now < farthest = omega (arith, c.well_formed) in
     elim c.if-out-most.branch [
       | then-out-most+else-out-size w ↦
-          fills_counted (whole text) c.args.out.now refl short (omega (arith, c.requires.0, c.requires.1)) w.put_front-size.ensures
-          (fills_whole (whole text) (w.put_front-size.new.out ++ c.args.out.now) refl (omega (arith, ap length w.out-is, c.if-out-most.auto.out, short)) (fits_counted (whole text) c.args.out.now refl short (omega (arith, c.requires.0, c.requires.1)) w.put_front-size.ensures w.if-out-size.false) (rw w.out-is at c.put_front.ensures))
+          fills_counted (whole text) c.args.out.now refl short (omega (arith, asked.0, asked.1)) w.put_front-size.ensures
+          (fills_whole (whole text) (w.put_front-size.new.out ++ c.args.out.now) refl (omega (arith, ap length w.out-is, c.if-out-most.auto.out, short)) (fits_counted (whole text) c.args.out.now refl short (omega (arith, asked.0, asked.1)) w.put_front-size.ensures w.if-out-size.false) (rw w.out-is at c.put_front.ensures))
       | else-out-most w ↦
-          fills_whole (whole text) c.args.out.now refl short (omega (arith, w.if-out-most.false, c.requires.0)) (rw w.out-is at c.put_front.ensures)
+          fills_whole (whole text) c.args.out.now refl short (omega (arith, w.if-out-most.false, asked.0)) (rw w.out-is at c.put_front.ensures)
     ]
