@@ -15,5 +15,5 @@ returns-in_err-sheet c =
 pub returns : goal.returns
 returns c =
     let e = sheet_same c.args.tree.now c.args.cells.now c.in_ok-sheet.sheet c.in_ok-sheet.ensures.sheet in
-    filled_in c.args.tree.now c.args.cells.now (sym c.in_ok-sheet.ensures.number) (rw e at c.fill.ensures
-    (rw e (longest c.args.tree.now c.args.cells.now (λ i. (c.type_inv.cells i).fits) (sym c.in_ok-sheet.ensures.number)), omega arith))
+    let within = longest c.args.tree.now c.args.cells.now (λ i. (c.type_inv.cells i).fits) (sym c.in_ok-sheet.ensures.number) in
+    filled_in c.args.tree.now c.args.cells.now (sym c.in_ok-sheet.ensures.number) (rw e at c.fill.ensures (within, omega arith))
