@@ -26,7 +26,10 @@ impl<'a> Output<'a> {
         ensures bytes { result.bytes.now ≡ bytes.old }
         ensures same { result.bytes.ghost_name ≡ bytes.entry.ghost_name }
     {
-        Output { bytes, at: FARTHEST.min(at) }
+        Output {
+            bytes,
+            at: FARTHEST.min(at),
+        }
     }
 
     // Bytes as they are.
