@@ -21,11 +21,21 @@ fn first_other(bs: &[u8]) -> Option<usize>
     bs.iter().position(|b| !is_character(*b))
 }
 
-// How many characters stand in front of some bytes.
+// How many characters stand in front of some bytes. Two bytes are looked at in a round.
 fn characters(bs: &[u8]) -> usize
     ensures { result ≡ characters_in bs.now }
 {
-    first_other(bs).unwrap_or(bs.len())
+    let mut left = bs;
+    while let [first, second, rest @ ..] = left {
+        if !is_character(*first) {
+            return bs.len() - left.len();
+        }
+        if !is_character(*second) {
+            return bs.len() - left.len() + 1;
+        }
+        left = rest;
+    }
+    bs.len() - left.len() + first_other(left).unwrap_or(left.len())
 }
 
 // The place after some texts that begin at a place and take at most so many bytes; nothing where a byte is no character, or
