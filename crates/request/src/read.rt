@@ -7,18 +7,18 @@ ghost use Rattle.protocol.specs.Request.{request_of, asked_if, read_indexed, rea
 ghost use Rattle.request.specs.Asked.{padded, AskedIs};
 
 use super::Request;
+use frame::buffer;
 use protocol::path::Path;
 use protocol::{Op, PDI, PropertyIndex, Refusal};
 
-// Bytes as a path, with zeros behind them.
+// Bytes as a path, with zeros behind them. They are put one by one: most are few, and were stored just before.
 fn path_of(bytes: &[u8]) -> Path
     requires { length bytes.now ≤ 16 }
     ensures path { PathIs bytes.now (length bytes.now) result }
     ensures zeros { result.numbers ≡ padded bytes.now }
 {
     let mut numbers = [0u8; 16];
-    let len = bytes.len();
-    numbers[..len].copy_from_slice(bytes);
+    let len = buffer::put_all(bytes, &mut numbers, 0);
     Path { numbers, len }
 }
 
