@@ -16,19 +16,19 @@ use Rattle.protocol.specs.Request.{Asked}
 use Rattle.protocol.specs.Tree.{property_in, cell_in, reading}
 use Rattle.protocol.proofs.FrameLaws.{read_datagram-refused}
 use Rattle.datagram.proofs.UdpLaws.{data-from-4}
-use Rattle.std.specs.Prelude.{Result, Ok, Err, ok_or}
+use Rattle.std.specs.Prelude.{Ok, Err, ok_or}
 use Rattle.protocol.specs.declared.Refusal.{Refusal}
 use Rattle.protocol.specs.declared.Refusal.TheVariants.{NoReading, NoSuchProperty}
-use Rattle.protocol.specs.Refusal.{refusal_number, number_told, option_of, op_number}
+use Rattle.protocol.specs.Refusal.{refusal_number, option_of, op_number}
 use Rattle.protocol.proofs.RefusalLaws.{refusal_some}
 use Rattle.request.specs.declared.Request.{Request}
 use Rattle.request.specs.Asked.{padded, AskedIs}
 use Rattle.tree.specs.Seen.{seen}
 use Rattle.soundness.specs.Sound.{is_tree}
 use Rattle.cells.specs.Cells.{cells_in}
-use Rattle.cells.specs.Lent.{is_lent, lent_number, Read, read_in, or_else, Reads}
+use Rattle.cells.specs.Lent.{is_lent, lent_number, read_in}
 use Rattle.cells.proofs.CellLaws.{lent_refused, refused_unsound}
-use Rattle.pualirqiq.specs.Calls.{tree_number, value_told, ReadIs, Handed, handed, fields_of, HandsBack, Locates}
+use Rattle.pualirqiq.specs.Calls.{tree_number, ReadIs, Handed, handed, fields_of, HandsBack, Locates}
 
 -- A tree alone.
 pub tree_number_lem : (tree : List ℕ) (t : Bool) → is_tree tree ≡ t → cond t done unsound ≡ tree_number tree
@@ -109,8 +109,3 @@ module _ (tree cells : List ℕ) (place : ℕ) where
       unfolding read_in
       read_there none e = rw (lent, lt-ltb place (length (seen tree).properties) h, e)
       read_there (some n) e = rw (lent, lt-ltb place (length (seen tree).properties) h, e)
-
--- What is handed back for it.
-pub reads_as : (what : Read) (old : ℕ) (r : Result ℕ Refusal) → ReadIs what r → Reads what old (number_told r) (value_told old r)
-reads_as what old (Ok n) h = record { number = ap (λ w. w.number) (sym h); word_is = ap (λ w. or_else old w.word) (sym h) }
-reads_as what old (Err e) h = record { number = ap (λ w. w.number) (sym h); word_is = ap (λ w. or_else old w.word) (sym h) }

@@ -272,7 +272,10 @@ pub fn pq_reading(tree: &[u8], cells: &[u8], place: usize, word: &mut u32) -> u8
     ensures { Reads (read_in tree.now cells.now place) word.old result word.new }
 {
     let read = read(tree, cells, place);
-    tell(read, *word, word)
+    if let Ok(told) = read {
+        *word = told;
+    }
+    number_of(read)
 }
 
 // Request data served: 1, 8, 4, 5, 9, 10, 11, 15, 16, 12, 13 or 0.
