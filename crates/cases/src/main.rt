@@ -14,7 +14,7 @@
 mod record;
 mod show;
 
-ghost use Rattle.std.specs.Prelude.{◌≤◌, IfSome, length};
+ghost use Rattle.std.specs.Prelude.{◌≡◌, ◌≤◌, IfSome, length};
 
 use calls::{Answer, Numbers};
 use record::Case;
@@ -96,9 +96,16 @@ fn run_all(rt: &impl Print, text: &[u8], lent: &mut [u8]) -> io::Result<()> {
     Ok(())
 }
 
+// The buffer for the text.
+fn text_buffer() -> [u8; TEXT_ROOM]
+    ensures { 131072 ≡ length result }
+{
+    [0; TEXT_ROOM]
+}
+
 // A text that fills the buffer may be longer than it.
 fn main(rt: HostRuntime) -> io::Result<()> {
-    let mut text = [0u8; TEXT_ROOM];
+    let mut text = text_buffer();
     let n = input::read_full(&mut rt.reader(), &mut text)?;
     if n == text.len() {
         return show::broken(&rt);

@@ -2,15 +2,30 @@
 // prints is `listing::print::print`.
 #![tactic(auto)]
 
+ghost use Rattle.std.specs.Prelude.{◌≡◌, length};
+
 use listing::LISTING_ROOM;
 use listing::print::INPUT_ROOM;
 use std::io;
 
+// Room for the longest lent form and one byte more, by which a longer input is told.
+fn input_buffer() -> [u8; INPUT_ROOM]
+    ensures { 27331 ≡ length result }
+{
+    [0; INPUT_ROOM]
+}
+
+// Room for every listing.
+fn output_buffer() -> [u8; LISTING_ROOM]
+    ensures { 17664 ≡ length result }
+{
+    [0; LISTING_ROOM]
+}
+
 fn main(rt: HostRuntime) -> io::Result<()> {
-    // Room for the longest lent form and one byte more, by which a longer input is told; and for every listing.
-    let mut form = [0u8; INPUT_ROOM];
+    let mut form = input_buffer();
     let n = input::read_full(&mut rt.reader(), &mut form)?;
-    let mut out = [0u8; LISTING_ROOM];
+    let mut out = output_buffer();
     let len = listing::print::print(&form[..n], &mut out);
     rt.write_all(&out[..len])
 }
