@@ -344,16 +344,16 @@ uint8_t pq_write_udp(uint8_t op, const uint8_t *path, size_t path_len, uint8_t i
  * The most that a call needs, in bytes, on x86-64 (python3 tests/stack.py target/staticlib/libpualirqiq.a): with its return
  * address, and without its arguments, which are the caller's, and without what memcpy and memset take themselves.
  *
- *   pq_begin_buslink         8      pq_datagram_data         8      pq_restore_cells       280
- *   pq_begin_cells         232      pq_feed                 73      pq_serve_data          424
- *   pq_begin_stream         24      pq_frame                32      pq_serve_serial        792
- *   pq_buslink_indicator     8      pq_list               3712      pq_serve_udp           472
- *   pq_buslink_receive      40      pq_post                264      pq_state_size            8
- *   pq_buslink_send        424      pq_read_frame           80      pq_write_serial        104
- *   pq_cells_size          200      pq_read_serial         328      pq_write_sheet         672
- *   pq_check               232      pq_read_sheet          344      pq_write_udp           104
- *   pq_check_tree          184      pq_read_udp            280
- *   pq_datagram             40      pq_reading             264
+ *   pq_begin_buslink         8      pq_datagram_data         8      pq_restore_cells       264
+ *   pq_begin_cells         216      pq_feed                 73      pq_serve_data          424
+ *   pq_begin_stream         24      pq_frame                32      pq_serve_serial        808
+ *   pq_buslink_indicator     8      pq_list               3712      pq_serve_udp           456
+ *   pq_buslink_receive      40      pq_post                248      pq_state_size            8
+ *   pq_buslink_send        408      pq_read_frame           80      pq_write_serial        104
+ *   pq_cells_size          184      pq_read_serial         344      pq_write_sheet         672
+ *   pq_check               216      pq_read_sheet          328      pq_write_udp           104
+ *   pq_check_tree          168      pq_read_udp            312
+ *   pq_datagram             40      pq_reading             248
  *
  * Only pq_list and pq_write_sheet recurse: a frame for each digit of a number, and pq_list one for each level of the tree, of
  * which there are at most 16. What stands here is for 16 levels and 10 digits. No call takes stack by the length of what it is
