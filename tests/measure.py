@@ -77,7 +77,7 @@ TAIL = """
 - `pq_buslink_send` looks for its two probes in the list of properties from the front, at most once each; the check is most of the call.
   `pq_buslink_receive` goes by 8 bytes, of which it copies each by itself; the second implementation copies four at a time.
 - The check of the tree is most of a row with a tree, listings and sheets apart (two thirds or more on the bench tree): about 6 instructions
-  for a byte of text (`soundness::texts::characters`), and 31 for the numbers of a property (`tree::record::read_fields`).
+  for a byte of text (`soundness::texts::characters_end`), and 31 for the numbers of a property (`tree::record::read_fields`).
 """
 
 

@@ -9,13 +9,9 @@ use mathlib.Core.Bool.{Bool, true, false, cond}
 use mathlib.Core.List.{List, [], ◌∷◌}
 use borrow.Author.Tests.{ne_eqb}
 use lib.ListN.{length, get_or, take, drop, length-take, length-drop, drop_of_length-le}
-use lib.Seq.{drop-cons, drop-drop, take-nil, take-length, get_or-drop, get_or-take, length-take-le}
+use lib.Seq.{drop-cons, drop-drop, take-nil, get_or-drop, get_or-take, length-take-le}
 use Rattle.protocol.specs.Tree.{is_character}
-use Rattle.std.proofs.Common.{Some, None, not, ltb, ltb-false}
-use Rattle.std.specs.Option.{unwrap_or}
-use Rattle.std.specs.List.{position_or_len, position}
-use Rattle.std.proofs.lemmas.List.Sums.{prefix_len-le-length}
-use Rattle.std.proofs.lemmas.List.Recursion.{is_position_or_len}
+use Rattle.std.proofs.Common.{Some, None}
 use Rattle.protocol.specs.Refusal.{option_of}
 use Rattle.soundness.specs.Check.{characters_in, texts_end, texts_end_in}
 use Rattle.soundness.proofs.ScanLaws.{end_on, end_last, end_next, end_bad}
@@ -116,60 +112,6 @@ pub pass_two : {bs : List ℕ} {from end : ℕ} (at : ℕ) → Passing bs from e
 pass_two {bs} {from} {end} at p h e =
     let n : at + 1 + 1 ≡ at + 2 = omega arith in
     subst (λ m. Passing bs from end m) n (pass_on p h e)
-
--- The count of characters is where the first other byte stands.
-first_other : (bs : List ℕ) → characters_in bs ≡ position_or_len (λ b. not (is_character b)) bs
-unfolding characters_in
-first_other bs = is_position_or_len characters_in (λ b. not (is_character b)) refl (λ b bs. grind arith) bs
-
-pub characters_told : (bs : List ℕ) → unwrap_or (position (λ b. not (is_character b)) bs) (length bs) ≡ characters_in bs
-characters_told bs = go (ltb (position_or_len (λ b. not (is_character b)) bs) (length bs)) refl
-  where
-    go : (t : Bool) → ltb (position_or_len (λ b. not (is_character b)) bs) (length bs) ≡ t
-        → unwrap_or (cond t (Some (position_or_len (λ b. not (is_character b)) bs)) None) (length bs) ≡ characters_in bs
-    go true e = sym (first_other bs)
-    go false e =
-        sym (first_other bs ∙ omega (arith, prefix_len-le-length (λ b. not (not (is_character b))) bs, ltb-false (position_or_len (λ b. not (is_character b)) bs) (length bs) e))
-
--- A walk over characters, two in a round: what is left of the bytes.
-pub record Walking (bs left : List ℕ) : Type 0 where
-  pub within : length left ≤ length bs
-  pub whole : characters_in bs ≡ length bs - length left + characters_in left
-
-pub walk_begins : (bs : List ℕ) → Walking bs bs
-walk_begins bs = record { within = omega arith; whole = omega arith }
-
--- How many characters stand in front of a byte and others.
-characters_here : (b : ℕ) (bs : List ℕ) {u : Bool} → is_character b ≡ u → characters_in (b ∷ bs) ≡ cond u (suc (characters_in bs)) 0
-unfolding characters_in
-characters_here b bs e = ap (λ u. cond u (suc (characters_in bs)) 0) e
-
-module _ {bs : List ℕ} where
-  pub walk_first : (left : List ℕ) → Walking bs left → 2 ≤ length left → is_character (get_or left 0 0) ≡ false
-      → length bs - length left ≡ characters_in bs
-  walk_first [] w h e = absurd (not-suc-le-zero h)
-  walk_first (a ∷ left) w h e = omega (arith, w.whole, characters_here a left e)
-
-  pub walk_second : (left : List ℕ) → Walking bs left → 2 ≤ length left → is_character (get_or left 0 0) ≡ true
-      → is_character (get_or left 1 0) ≡ false → length bs - length left + 1 ≡ characters_in bs
-  walk_second [] w h e f = absurd (not-suc-le-zero h)
-  walk_second (a ∷ []) w h e f = absurd (omega (arith, h))
-  walk_second (a ∷ b ∷ left) w h e f = omega (arith, w.whole, characters_here a (b ∷ left) e, characters_here b left f)
-
-  pub walk_on : (left : List ℕ) → Walking bs left → 2 ≤ length left → is_character (get_or left 0 0) ≡ true
-      → is_character (get_or left 1 0) ≡ true → Walking bs (take (length left - 2) (drop 2 left))
-  walk_on [] w h e f = absurd (not-suc-le-zero h)
-  walk_on (a ∷ []) w h e f = absurd (omega (arith, h))
-  walk_on (a ∷ b ∷ left) w h e f =
-      let n : length left ≡ length (a ∷ b ∷ left) - 2 = omega arith in
-      subst (Walking bs) (sym (take-length left) ∙ ap (λ m. take m left) n) (record {
-        within = omega (arith, w.within);
-        whole = omega (arith, w.within, w.whole, characters_here a (b ∷ left) e, characters_here b left f);
-      })
-
-  pub walk_ends : (left : List ℕ) → Walking bs left
-      → length bs - length left + unwrap_or (position (λ b. not (is_character b)) left) (length left) ≡ characters_in bs
-  walk_ends left w = omega (arith, w.whole, characters_told left)
 
 -- A scan of texts that begin at a place: what is left of it.
 pub record Scanning (bs : List ℕ) (from count room end left at : ℕ) : Type 0 where

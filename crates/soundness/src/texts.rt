@@ -1,6 +1,5 @@
 // Texts in lent bytes, each ended by a zero: their end found.
-ghost use Rattle.std.specs.Prelude.{◌≡◌, not};
-ghost use Rattle.std.specs.List.{position};
+ghost use Rattle.std.specs.Prelude.{◌≡◌, ◌+◌, ◌-◌, ◌≤◌, length, take, drop};
 ghost use Rattle.protocol.specs.Tree.{is_character};
 ghost use Rattle.protocol.specs.Refusal.{option_of};
 ghost use Rattle.soundness.specs.Check.{characters_in, texts_end_in};
@@ -14,28 +13,28 @@ fn is_character(b: u8) -> bool
     (FIRST_CHARACTER..=LAST_CHARACTER).contains(&b)
 }
 
-// Where the first byte stands that is no character.
-fn first_other(bs: &[u8]) -> Option<usize>
-    ensures { result ≡ position (λ b. not (is_character b)) bs.now }
+// The place of the first byte from a place on that is no character, or the end. Two bytes are looked at in a round.
+fn characters_end(tree: &[u8], from: usize, end: usize) -> usize
+    requires { (from ≤ end) × (end ≤ length tree.now) }
+    ensures { result ≡ from + characters_in (take (end - from) (drop from tree.now)) }
 {
-    bs.iter().position(|b| !is_character(*b))
-}
-
-// How many characters stand in front of some bytes. Two bytes are looked at in a round.
-fn characters(bs: &[u8]) -> usize
-    ensures { result ≡ characters_in bs.now }
-{
-    let mut left = bs;
-    while let [first, second, rest @ ..] = left {
-        if !is_character(*first) {
-            return bs.len() - left.len();
+    let mut at = from;
+    while at + 1 < end {
+        if !is_character(tree[at]) {
+            return at;
         }
-        if !is_character(*second) {
-            return bs.len() - left.len() + 1;
+        if !is_character(tree[at + 1]) {
+            return at + 1;
         }
-        left = rest;
+        at += 2;
     }
-    bs.len() - left.len() + first_other(left).unwrap_or(left.len())
+    if end <= at {
+        return at;
+    }
+    if !is_character(tree[at]) {
+        return at;
+    }
+    at + 1
 }
 
 // The place after some texts that begin at a place and take at most so many bytes; nothing where a byte is no character, or
@@ -47,7 +46,7 @@ pub(crate) fn texts_end(tree: &[u8], from: usize, count: usize, room: usize) -> 
     let mut left = count;
     let mut at = from;
     while at < end {
-        let stop = at + characters(&tree[at..end]);
+        let stop = characters_end(tree, at, end);
         if end <= stop || tree[stop] != 0 {
             return None;
         }
