@@ -3,6 +3,7 @@
 #![tactic(auto)]
 
 ghost use Rattle.std.specs.Prelude.{◌≡◌, length};
+ghost use Rattle.listing.specs.Print.{input_room, listing_room};
 
 use listing::LISTING_ROOM;
 use listing::print::INPUT_ROOM;
@@ -10,14 +11,14 @@ use std::io;
 
 // Room for the longest lent form and one byte more, by which a longer input is told.
 fn input_buffer() -> [u8; INPUT_ROOM]
-    ensures { 27331 ≡ length result }
+    ensures { length result ≡ input_room }
 {
     [0; INPUT_ROOM]
 }
 
 // Room for every listing.
 fn output_buffer() -> [u8; LISTING_ROOM]
-    ensures { 17664 ≡ length result }
+    ensures { length result ≡ listing_room }
 {
     [0; LISTING_ROOM]
 }
